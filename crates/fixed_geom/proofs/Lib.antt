@@ -1,0 +1,10 @@
+pub mod Decimals
+pub mod Dots
+pub mod Floors
+pub mod Means
+pub mod PoseTests
+pub mod Sizes
+pub mod Spellings
+pub mod Whole
+pub mod Wide
+pub mod Worlds

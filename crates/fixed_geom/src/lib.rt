@@ -1,0 +1,18 @@
+//! Fixed-point vectors, poses and decimals: lengths in whole micrometres, rotations in units of `2^-30`.
+#![tactic(auto)]
+
+mod bounds;
+pub mod decimal;
+pub mod division;
+pub mod laws;
+pub mod pose;
+mod products;
+mod spelling;
+#[cfg(test)]
+mod tests;
+pub mod vector;
+
+pub use decimal::{BadNumber, read_decimal};
+pub use division::{floor_div, round_div};
+pub use pose::{BadPose, Pose, PoseRows};
+pub use vector::Vec3;

@@ -1,0 +1,115 @@
+use super::*;
+
+const ONE: i64 = 1 << 30;
+
+const ORIGIN: Vec3 = Vec3 { x: 0, y: 0, z: 0 };
+
+/// The rows of a small turn: 0.9998 and 0.019999.
+const TURN: [i64; 9] = [1073527076, -21473763, 0, 21473763, 1073527076, 0, 0, 0, ONE];
+
+const IDENTITY: [i64; 9] = [ONE, 0, 0, 0, ONE, 0, 0, 0, ONE];
+
+fn refusal(r: [i64; 9], t: Vec3) -> Option<BadPose> {
+    Pose::accept(&PoseRows { r, t }).err()
+}
+
+// Takes what threads can share.
+fn is_shared<T: Send + Sync>(_value: &T) {}
+
+fn along_x(x: i64) -> Vec3 {
+    Vec3 { x, y: 0, z: 0 }
+}
+
+#[test]
+fn poses_are_judged(rt: HostRuntime) {
+    let mirror = [-ONE, 0, 0, 0, ONE, 0, 0, 0, ONE];
+    let stretched = [1074815566, 0, 0, 0, ONE, 0, 0, 0, ONE];
+    let least = [i64::MIN, 0, 0, 0, ONE, 0, 0, 0, ONE];
+    let bent = [ONE, 1 << 20, 0, 0, ONE, 0, 0, 0, ONE];
+    for (r, t, want) in [
+        (TURN, ORIGIN, None),
+        (mirror, ORIGIN, Some(BadPose::NotRotation)),
+        (bent, ORIGIN, Some(BadPose::NotRotation)),
+        (stretched, ORIGIN, Some(BadPose::Range)),
+        (least, ORIGIN, Some(BadPose::Range)),
+        (IDENTITY, along_x(1_000_000_000), Some(BadPose::Range)),
+        (IDENTITY, along_x(i64::MIN), Some(BadPose::Range)),
+        (mirror, along_x(1_000_000_000), Some(BadPose::Range)),
+        (IDENTITY, along_x(100_000_000), None),
+        (IDENTITY, along_x(-100_000_000), None),
+        (IDENTITY, along_x(100_000_001), Some(BadPose::Range)),
+    ] {
+        assert_eq!(rt; refusal(r, t), want, "at {:?} {:?}", r, t);
+    }
+}
+
+#[test]
+fn points_go_to_the_camera_and_back(rt: HostRuntime) -> Result<(), BadPose> {
+    let half_turn = PoseRows {
+        r: [-ONE, 0, 0, 0, ONE, 0, 0, 0, -ONE],
+        t: Vec3 {
+            x: 10,
+            y: 20,
+            z: 30,
+        },
+    };
+    let pose = Pose::accept(&half_turn)?;
+    is_shared(&pose);
+    assert_eq!(rt; pose.rows(), half_turn);
+    assert_eq!(rt;
+        pose.cam(Vec3 {
+            x: 11,
+            y: 22,
+            z: 33
+        }),
+        Vec3 { x: -1, y: 2, z: -3 }
+    );
+    assert_eq!(rt;
+        pose.world(Vec3 { x: 1, y: 2, z: 3 }),
+        Vec3 { x: 9, y: 22, z: 27 }
+    );
+
+    // Each coordinate is a floor: of 0.9998, -0.019999 and 0.019999 micrometres.
+    let pose = Pose::accept(&PoseRows { r: TURN, t: ORIGIN })?;
+    assert_eq!(rt;
+        pose.cam(Vec3 { x: 1, y: 0, z: 0 }),
+        Vec3 { x: 0, y: -1, z: 0 }
+    );
+    assert_eq!(rt; pose.world(Vec3 { x: 1, y: 0, z: 0 }), ORIGIN);
+    Ok(())
+}
+
+#[test]
+fn quotients_are_floors(rt: HostRuntime) {
+    let most: i128 = 1 << 125;
+    assert_eq!(rt; floor_div(7, 2), 3);
+    assert_eq!(rt; floor_div(-7, 2), -4);
+    assert_eq!(rt; floor_div(-8, 2), -4);
+    assert_eq!(rt; floor_div(-1, most), -1);
+    assert_eq!(rt; floor_div(-most, 1), -most);
+    assert_eq!(rt; round_div(3, 2), 2);
+    assert_eq!(rt; round_div(-3, 2), -1);
+    assert_eq!(rt; round_div(-5, 10), 0);
+    assert_eq!(rt; round_div(-6, 10), -1);
+    assert_eq!(rt; round_div(-most, most), -1);
+}
+
+#[test]
+fn decimals_are_read(rt: HostRuntime) {
+    let micro = 1_000_000;
+    for (text, scale, want) in [
+        ("0.0000005", micro, Ok(1)),
+        ("-0.0000005", micro, Ok(0)),
+        (".5", micro, Ok(500_000)),
+        ("5.", micro, Ok(5_000_000)),
+        ("1e-40", micro, Ok(0)),
+        ("1.0000000000000000000e+00", 1 << 30, Ok(1_073_741_824)),
+        ("-", micro, Err(BadNumber::Grammar)),
+        ("nan", micro, Err(BadNumber::Grammar)),
+        ("1e4", micro, Err(BadNumber::Grammar)),
+        ("", micro, Err(BadNumber::Grammar)),
+        ("999999999999999", micro, Err(BadNumber::Range)),
+    ] {
+        assert_eq!(rt; read_decimal(text.as_bytes(), scale), want, "at {:?}", text);
+    }
+}

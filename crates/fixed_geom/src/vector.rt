@@ -1,0 +1,7 @@
+/// A point or a way, in whole micrometres.
+#[derive(Clone, Copy, Debug, PartialEq, Eq)]
+pub struct Vec3 {
+    pub x: i64,
+    pub y: i64,
+    pub z: i64,
+}
