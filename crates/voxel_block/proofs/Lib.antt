@@ -1,0 +1,4 @@
+pub mod Blocks
+pub mod KeyLaws
+pub mod Pairs
+pub mod VoxelLists
