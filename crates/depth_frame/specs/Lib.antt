@@ -1,0 +1,4 @@
+pub mod Errors
+pub mod Files
+pub mod Pgm
+pub mod Pictures

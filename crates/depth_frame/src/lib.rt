@@ -1,0 +1,17 @@
+//! Depth maps: what a depth camera measures in one frame, and their files, binary PGMs (Netpbm).
+#![tactic(auto)]
+
+mod bytes;
+mod error;
+mod frame;
+mod header;
+mod pgm;
+mod raster;
+
+pub use bytes::pgm_bytes;
+pub use error::{BadPgm, PgmError, PgmKind};
+pub use frame::DepthFrame;
+pub use pgm::{files_are_read, read_pgm};
+
+#[cfg(test)]
+mod tests;

@@ -1,0 +1,65 @@
+ghost use Rattle.std.specs.Prelude.{◌≡◌, ◌<◌, ◌≤◌, ◌++◌, ℕ, List, Ok, IsErrOf};
+ghost use Rattle.scan_io.specs.Causes.{Rose};
+ghost use Rattle.depth_frame.specs.Pgm.{pgm_at, pgm_of};
+ghost use Rattle.depth_frame.specs.Files.{File, FoundFile, IsFile, file_bytes, file_picture};
+ghost use Rattle.depth_frame.specs.Pictures.{Picture};
+ghost use Rattle.depth_frame.specs.Errors.{pgm_errors};
+ghost use Rattle.scan_io.specs.Reading.{Reads, stream};
+ghost use Rattle.depth_frame.specs.declared.error.PgmError.TheVariants.{ReadFault};
+
+use crate::DepthFrame;
+use crate::error::{BadPgm, PgmError};
+use crate::header::read_header;
+use crate::raster::read_raster;
+use scan_io::{Feed, Source};
+use std::alloc::Global;
+
+/// The depth map of the binary PGM (Netpbm) at the front of the bytes to come, which lose just its bytes. The samples
+/// are taken as they are, and not scaled by the greatest one. After an error, what was read of the file is gone.
+#[tactic(auto, unfolding(crate::specs::Pgm::pgm_of))]
+pub fn read_pgm<S: Source>(
+    alloc: Global,
+    feed: &mut Feed,
+    source: &mut S,
+) -> Result<DepthFrame, PgmError>
+    ensures pgm { Reads pgm_errors (λ f. f) (pgm_of feed.old.given) (stream feed.old (S.left source.old))
+        (stream feed.new (S.left source.new)) (S.left source.new) result }
+    ensures later { S.faults source.old ≤ S.faults source.new }
+    ensures fault { IsErrOf result ReadFault → Rose (S.faults source.old) (S.faults source.new) }
+{
+    let start = feed.place();
+    match read_file(alloc, feed, source) {
+        Ok(frame) => Ok(frame),
+        Err(PgmError::Bad(why)) => Err(PgmError::Bad(BadPgm {
+            at: start.saturating_add(why.at),
+            kind: why.kind,
+        })),
+        Err(PgmError::ReadFault) => Err(PgmError::ReadFault),
+        Err(PgmError::NoMemory) => Err(PgmError::NoMemory),
+    }
+}
+
+// The file, with places counted from its first byte.
+#[tactic(auto, unfolding(crate::specs::Pgm::pgm_at))]
+fn read_file<S: Source>(
+    alloc: Global,
+    feed: &mut Feed,
+    source: &mut S,
+) -> Result<DepthFrame, PgmError>
+    ensures file { Reads pgm_errors (λ f. f) pgm_at (stream feed.old (S.left source.old))
+        (stream feed.new (S.left source.new)) (S.left source.new) result }
+    ensures later { S.faults source.old ≤ S.faults source.new }
+    ensures fault { IsErrOf result ReadFault → Rose (S.faults source.old) (S.faults source.new) }
+{
+    let shape = read_header(feed, source)?;
+    let count = shape.width as usize * shape.height as usize;
+    let raw = read_raster(alloc, feed, source, shape.most, count, shape.start)?;
+    Ok(DepthFrame::make(shape.width, shape.height, raw))
+}
+
+/// A law: whatever is put together as a file is read as its depth map, whatever follows it, and nothing else is read.
+/// It does nothing when it is called.
+pub fn files_are_read()
+    ensures read { (start : ℕ) (f : File) (rest : List ℕ) → IsFile f → pgm_of start (file_bytes f ++ rest) ≡ Ok (file_picture f, rest) }
+    ensures found { (start : ℕ) (text : List ℕ) (p : Picture) (rest : List ℕ) → pgm_of start text ≡ Ok (p, rest) → FoundFile text p rest }
+{}
