@@ -1,6 +1,6 @@
 -- Bytes that are given and taken piece by piece.
-use Rattle.std.proofs.Common.{◌≡◌, ℕ, ◌+◌, ◌-◌, ◌≤◌, List, ◌++◌, Option, None, Some, length, take, drop, sym, ap, ◌∙◌, append_assoc, arith, length-take, length-drop}
-use Rattle.std.proofs.lemmas.List.{take_at, take-append-drop, drop-drop, take_rest}
+use Rattle.std.proofs.Common.{◌≡◌, ℕ, ◌+◌, ◌-◌, ◌≤◌, List, ◌++◌, Option, None, Some, length, take, drop, refl, sym, ap, ◌∙◌, append_assoc, arith, length-take, length-drop}
+use Rattle.std.proofs.lemmas.List.{take_at, take-append-drop, drop-drop, drop-take, take_rest}
 use Rattle.std.proofs.Math.Seq.{take-add}
 use Rattle.std.specs.Io.KnownBytes.{Appends}
 
@@ -11,6 +11,12 @@ left_after bytes got rest at n fits is =
     let front : got ≡ take n (drop at bytes) = is ∙ ap (λ (k : ℕ). take k (drop at bytes)) same in
     let size : length got ≡ n = ap length front ∙ simp (length-take, length-drop) (omega arith) in
     rw (take_at got rest n size, front, ← drop-drop n at bytes) (sym (take-append-drop n (drop at bytes)))
+
+-- what a buffer keeps from a place up to an end, without its first n bytes
+pub kept_after : (bytes : List ℕ) (at end n : ℕ) → n ≤ end - at → take (end - (at + n)) (drop (at + n) bytes) ≡ drop n (take (end - at) (drop at bytes))
+kept_after bytes at end n fits =
+    let size : end - at ≡ n + (end - (at + n)) = omega arith in
+    rw (size, drop-take n (end - (at + n)) (drop at bytes), drop-drop n at bytes) refl
 
 -- one piece after another
 pub appends_more : (a b c : Option (List ℕ)) (bytes : List ℕ) (done n : ℕ) → Appends a b (take done bytes) → Appends b c (take n (take (length bytes - done) (drop done bytes))) → Appends a c (take (done + n) bytes)

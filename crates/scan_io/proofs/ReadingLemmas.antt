@@ -1,8 +1,9 @@
 -- How readers of a stream follow one another.
-use Rattle.std.proofs.Common.{◌≡◌, ℕ, ◌+◌, Bool, true, false, cond, List, [], ◌∷◌, ◌++◌, length, length-append, Option, None, Some, Result, Ok, Err, refl, sym, ap, ◌∙◌, append_assoc, min, ◌^◌, ◌-◌, arith}
+use Rattle.std.proofs.Common.{◌≡◌, ℕ, ◌+◌, Bool, true, false, cond, List, [], ◌∷◌, ◌++◌, length, length-append, take, drop, Option, None, Some, Result, Ok, Err, refl, sym, ap, ◌∙◌, append_assoc, min, ◌^◌, ◌-◌, ◌≤◌, arith}
+use Rattle.std.proofs.lemmas.List.{take-append-drop, length-take-le}
 use Rattle.std.specs.Io.KnownBytes.{Consumes, Keeps, IsAtEnd}
 use Rattle.scan_io.specs.Coming.{Kept, to_come}
-use Rattle.scan_io.specs.Reading.{held, Stream, Leads, KnownCame, Came, Cause, refused, failed, no_memory, Errors, KnownRefusal, KnownReads, Reads, byte_at, turned}
+use Rattle.scan_io.specs.Reading.{held, Stream, stream, Leads, KnownCame, Came, Cause, refused, failed, no_memory, Errors, KnownRefusal, KnownReads, Reads, byte_at, turned}
 use Rattle.scan_io.specs.Steps.{◌>>=◌}
 
 -- ---- what was read so far
@@ -149,6 +150,46 @@ fault_known errors n e before (Some text) (Some rest) feed cause stays none = fa
 -- the source failed, and the feed keeps no byte
 pub byte_fault : {E W : Type 0} (errors : Errors E W) (n : ℕ) (e : E) (old : Stream) (left : Option (List ℕ)) (feed : Kept) → errors.cause e ≡ failed → Keeps old.come (to_come feed left) → feed.bytes ≡ [] → Reads errors (λ (x : ℕ). x) (byte_at errors.ended n) old (record { come = to_come feed left; given = feed.given }) left (Err e)
 byte_fault errors n e old left feed cause stays none = record { known = fault_known errors n e old.given old.come left feed cause stays none }
+
+-- ---- many bytes at once
+
+given_known : {R : Type 0} (whole f g : List ℕ → R) (a : ℕ) (old left : Option (List ℕ)) (front : List ℕ) (feed next : Kept) → KnownCame whole f a feed.given old (to_come feed left) → feed.bytes ≡ front ++ next.bytes → next.given ≡ min (feed.given + length front) (2 ^ 64 - 1) → ((t : List ℕ) → f (front ++ t) ≡ g t)
+    → KnownCame whole g a next.given old (to_come next left)
+given_known whole f g a None left front feed next h split count is = tt
+given_known whole f g a (Some text) None front feed next h split count is = absurd h
+given_known whole f g a (Some text) (Some rest) front feed next h split count is =
+    let bytes : feed.bytes ++ rest ≡ front ++ (next.bytes ++ rest) = ap (λ (l : List ℕ). l ++ rest) split ∙ append_assoc front next.bytes rest in
+    record {
+      front = h.front ++ front;
+      is = h.is ∙ ap (λ (l : List ℕ). h.front ++ l) bytes ∙ sym (append_assoc h.front front (next.bytes ++ rest));
+      count = count_on a feed.given next.given h.front front h.count (omega arith);
+      again = λ other. rw (append_assoc, h.again (front ++ other), is other) refl;
+    }
+
+-- a feed gave so many of the bytes that it keeps, and read before any other bytes they leave this to do
+pub came_given : {R : Type 0} {whole f : List ℕ → R} (g : List ℕ → R) (count : ℕ) (feed next : Kept) (left : Option (List ℕ)) {old : Stream}
+    → Came whole f old (stream feed left) → count ≤ length feed.bytes → next.bytes ≡ drop count feed.bytes → next.given ≡ min (feed.given + count) (2 ^ 64 - 1) → ((t : List ℕ) → f (take count feed.bytes ++ t) ≡ g t) → Came whole g old (stream next left)
+came_given {whole = whole} {f = f} g count feed next left {old = old} h fits rest given is =
+    let split : feed.bytes ≡ take count feed.bytes ++ next.bytes = rw rest (sym (take-append-drop count feed.bytes)) in
+    let size : length (take count feed.bytes) ≡ count = length-take-le count feed.bytes fits in
+    record { known = given_known whole f g old.given old.come left (take count feed.bytes) feed next h.known split (rw size given) is }
+
+-- ---- one reading in another
+
+known_on : {R : Type 0} (whole f g : List ℕ → R) (a b c : ℕ) (old mid new : Option (List ℕ)) → KnownCame whole f a b old mid → KnownCame f g b c mid new → KnownCame whole g a c old new
+known_on whole f g a b c None mid new h k = tt
+known_on whole f g a b c (Some text) None new h k = absurd h
+known_on whole f g a b c (Some text) (Some more) None h k = absurd k
+known_on whole f g a b c (Some text) (Some more) (Some rest) h k = record {
+  front = h.front ++ k.front;
+  is = h.is ∙ ap (λ (l : List ℕ). h.front ++ l) k.is ∙ sym (append_assoc h.front k.front rest);
+  count = count_on a b c h.front k.front h.count k.count;
+  again = λ other. rw (append_assoc, h.again (k.front ++ other), k.again other) refl;
+}
+
+-- more was read of what was left to do
+pub came_on : {R : Type 0} {whole f g : List ℕ → R} {old mid new : Stream} → Came whole f old mid → Came f g mid new → Came whole g old new
+came_on {whole = whole} {f = f} {g = g} {old = old} {mid = mid} {new = new} h k = record { known = known_on whole f g old.given mid.given new.given old.come mid.come new.come h.known k.known }
 
 -- ---- refusals said otherwise
 

@@ -1,4 +1,4 @@
-ghost use Rattle.std.specs.Prelude.{◌≡◌, ◌≢◌, ◌↔◌, ◌+◌, ◌-◌, ◌^◌, [], ◌∷◌, min, false, IfOk, OnErr, IsTrue};
+ghost use Rattle.std.specs.Prelude.{◌≡◌, ◌≢◌, ◌≤◌, ◌↔◌, ◌+◌, ◌-◌, ◌^◌, [], ◌∷◌, min, length, drop, false, IfOk, OnErr, IsTrue};
 ghost use Rattle.std.specs.Io.KnownBytes.{Keeps, IsAtEnd};
 ghost use Rattle.scan_io.specs.Causes.{HasCause};
 ghost use Rattle.scan_io.specs.Coming.{SameTelling, to_come, Gives, GivesKept, KeepsNone, given_after};
@@ -68,6 +68,23 @@ impl Feed {
         ensures { result ≡ self.now.given }
     {
         self.given
+    }
+
+    /// The bytes that it keeps, which are the next to come.
+    pub fn kept(&self) -> &[u8]
+        ensures { result.now ≡ self.now.bytes }
+    {
+        &self.buffer[self.at..self.end]
+    }
+
+    /// Gives the first `count` of the bytes that it keeps, all at once.
+    pub fn skip(&mut self, count: usize)
+        requires { count ≤ length self.old.bytes }
+        ensures bytes { self.new.bytes ≡ drop count self.old.bytes }
+        ensures given { self.new.given ≡ min (self.old.given + count) (2 ^ 64 - 1) }
+    {
+        self.at += count;
+        self.given = self.given.saturating_add(count as u64);
     }
 
     // Whether it keeps no byte.

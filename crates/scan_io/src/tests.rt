@@ -47,6 +47,24 @@ fn a_feed_gives_every_byte_past_failures(rt: HostRuntime) -> Result<(), Fail> {
 }
 
 #[test]
+fn a_feed_gives_kept_bytes_at_once(rt: HostRuntime) -> Result<(), Fail> {
+    let alloc = rt.alloc();
+    let mut source = MemSource::make(b"depth".to_vec(alloc)?, 4, Vec::new(alloc));
+    let mut feed = Feed::make(alloc).map_err(|_| Fail::from("memory"))?;
+    assert_eq!(rt; feed.kept(), b"".as_slice());
+    assert_eq!(rt; feed.next(&mut source), Ok(Some(b'd')));
+    assert_eq!(rt; feed.kept(), b"ept".as_slice());
+    if feed.kept().len() >= 2 {
+        feed.skip(2);
+    }
+    assert_eq!(rt; feed.kept(), b"t".as_slice());
+    assert_eq!(rt; feed.place(), 3);
+    assert_eq!(rt; feed.next(&mut source), Ok(Some(b't')));
+    assert_eq!(rt; feed.next(&mut source), Ok(Some(b'h')));
+    Ok(())
+}
+
+#[test]
 fn a_memory_source_fails_its_calls_only(rt: HostRuntime) -> Result<(), Fail> {
     let alloc = rt.alloc();
     for (piece, want) in [
