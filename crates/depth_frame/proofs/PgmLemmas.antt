@@ -11,6 +11,7 @@ use Rattle.depth_frame.specs.declared.header.Shape.{Shape}
 use Rattle.depth_frame.specs.Pictures.{Picture}
 use Rattle.std.proofs.Math.Nat.{pow-suc, pow-le-pow_right}
 use Rattle.depth_frame.specs.Pgm.{short, gap_behind, gap_end, in_gap, in_comment, mark, fault, number_behind, number_end, with_digit, number_at, judged_at, is_magic, starts_gap, magic_at, header_at, side_judged, maxval_judged, one_sample, sample_judged, is_wide, sample_len, with_sample, raster_at, pgm_at, placed}
+use Rattle.depth_frame.specs.Runs.{with_front, raster_further}
 use Rattle.scan_io.specs.Reading.{byte_at, held}
 use Rattle.scan_io.proofs.ReadingLemmas.{KeepsEnds}
 use Rattle.scan_io.specs.Steps.{◌>>=◌}
@@ -142,21 +143,12 @@ sample_narrow most n a is t = rw is refl
 pub sample_wide : (most n a : ℕ) → is_wide most ≡ true → (t : List ℕ) → sample_high most n a t ≡ (byte_at short (n + 1) t >>= λ p. sample_judged most n (256 * a + p.0) p.1)
 sample_wide most n a is t = rw is refl
 
--- samples in front of those that are read
-abbrev pub with_front : List ℕ → Result (List ℕ × List ℕ) BadPgm → Result (List ℕ × List ℕ) BadPgm
-with_front vs (Err why) = Err why
-with_front vs (Ok (ws, rest)) = Ok (vs ++ ws, rest)
-
 front_none : (r : Result (List ℕ × List ℕ) BadPgm) → r ≡ with_front [] r
 front_none (Ok p) = refl
 front_none (Err why) = refl
 
--- the samples so far, and those that are still to be read
-abbrev pub raster_further : List ℕ → ℕ → ℕ → ℕ → List ℕ → Result (List ℕ × List ℕ) BadPgm
-raster_further vs most k n t = with_front vs (raster_at most k n t)
-
-pub raster_none : (most k j n : ℕ) → j ≡ k → (t : List ℕ) → raster_at most k n t ≡ raster_further [] most j n t
-raster_none most k j n is t = rw is (front_none (raster_at most k n t))
+pub raster_none : (most k j n at : ℕ) → j ≡ k → at ≡ n → (t : List ℕ) → raster_at most k n t ≡ raster_further [] most j at t
+raster_none most k j n at is place t = rw (is, place) (front_none (raster_at most k n t))
 
 front_more : (vs : List ℕ) (v : ℕ) (r : Result (List ℕ × List ℕ) BadPgm) → with_front vs (with_sample v r) ≡ with_front (vs ++ v ∷ []) r
 front_more vs v (Ok p) = rw append_assoc refl

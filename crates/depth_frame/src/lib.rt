@@ -7,6 +7,7 @@ mod frame;
 mod header;
 mod pgm;
 mod raster;
+mod samples;
 
 pub use bytes::pgm_bytes;
 pub use error::{BadPgm, PgmError, PgmKind};

@@ -1,13 +1,15 @@
-ghost use Rattle.std.specs.Prelude.{◌≡◌, ◌<◌, ◌≤◌, ◌+◌, ◌*◌, IfOk, IsErrOf, vec_len, nat_le, Ok, Err, if◌then◌else◌, ◌^◌};
+ghost use Rattle.std.specs.Prelude.{◌≡◌, ◌<◌, ◌≤◌, ◌+◌, ◌-◌, ◌*◌, ℕ, List, Option, IfOk, IsErrOf, vec_len, vec_capacity, nat_le, Ok, Err, if◌then◌else◌, ◌^◌};
 ghost use Rattle.depth_frame.specs.declared.error.PgmKind.TheVariants.{Sample};
 ghost use Rattle.scan_io.specs.Causes.{Rose};
-ghost use Rattle.depth_frame.specs.Pgm.{one_sample, raster_at, fault, sample_len as len_of};
+ghost use Rattle.depth_frame.specs.Pgm.{one_sample, raster_at, fault, sample_len};
+ghost use Rattle.depth_frame.specs.Runs.{raster_further};
 ghost use Rattle.depth_frame.specs.Errors.{pgm_errors};
-ghost use Rattle.scan_io.specs.Reading.{Reads, stream};
+ghost use Rattle.scan_io.specs.Reading.{Came, Reads, stream};
 ghost use Rattle.depth_frame.specs.declared.error.PgmError.TheVariants.{Bad, ReadFault};
 
 use crate::error::{BadPgm, PgmError, PgmKind};
 use crate::header::next_byte;
+use crate::samples::push_samples;
 use scan_io::{Feed, Source};
 use std::alloc::Global;
 
@@ -29,23 +31,39 @@ pub fn read_raster<S: Source>(
     ensures later { S.faults source.old ≤ S.faults source.new }
     ensures fault { IsErrOf result ReadFault → Rose (S.faults source.old) (S.faults source.new) }
 {
-    let step = sample_len(most);
-    let mut raw = Vec::new(alloc);
-    let mut at = start;
-    for _ in 0..count {
+    let mut raw = Vec::with_capacity(alloc, count)?;
+    while raw.len() < count {
+        let at = start + byte_len(most, raw.len()) as u64;
         let sample = read_sample(feed, source, most, at)?;
-        raw.push(sample)?;
-        at += step;
+        raw.push_reserved(sample);
+        take_kept(feed, &mut raw, most, count);
     }
     Ok(raw)
 }
 
-// How many bytes a sample has.
-fn sample_len(most: u32) -> u64
-    ensures value { result ≡ len_of most }
-    ensures bound { result ≤ 2 }
+// How many bytes so many samples have.
+fn byte_len(most: u32, count: usize) -> usize
+    requires { count ≤ 4096 * 4096 }
+    ensures value { result ≡ count * sample_len most }
+    ensures bound { result ≤ 2 * count }
 {
-    if most >= 256 { 2 } else { 1 }
+    if most < 256 { count } else { 2 * count }
+}
+
+// Takes the samples that the feed keeps whole, up to `count` in all, and stops at one that is above the greatest.
+fn take_kept(feed: &mut Feed, raw: &mut Vec<u16>, most: u32, count: usize)
+    requires len { vec_len raw.old ≤ count }
+    requires room { count ≤ vec_capacity raw.old }
+    ensures came { (at : ℕ) (left : Option (List ℕ)) → Came (raster_further raw.old.items most (count - vec_len raw.old) at)
+        (raster_further raw.new.items most (count - vec_len raw.new) (at + (vec_len raw.new - vec_len raw.old) * sample_len most))
+        (stream feed.old left) (stream feed.new left) }
+    ensures least { vec_len raw.old ≤ vec_len raw.new }
+    ensures greatest { vec_len raw.new ≤ count }
+    ensures room { vec_capacity raw.new ≡ vec_capacity raw.old }
+{
+    let wanted = count - raw.len();
+    let used = push_samples(raw, feed.kept(), most, wanted);
+    feed.skip(used);
 }
 
 // The sample at the place `at`, its most significant byte first.

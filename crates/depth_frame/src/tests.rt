@@ -50,7 +50,7 @@ fn refusal(answer: &Result<DepthFrame, PgmError>) -> Option<BadPgm> {
 #[test]
 fn bad_files_are_refused_at_their_place(rt: HostRuntime) -> Result<(), Fail> {
     let alloc = rt.alloc();
-    let cases: [(&[u8], u64, PgmKind); 18] = [
+    let cases: [(&[u8], u64, PgmKind); 20] = [
         (b"P", 1, PgmKind::Short),
         (b"P6 ", 0, PgmKind::Magic),
         (b"P5x", 2, PgmKind::Header),
@@ -69,6 +69,12 @@ fn bad_files_are_refused_at_their_place(rt: HostRuntime) -> Result<(), Fail> {
         (b"P5\n2 1\n9\n\t", 10, PgmKind::Short),
         (b"P5\n1 1\n300\n\x01\x2d", 11, PgmKind::Sample),
         (b"P5\n1 1\n300\n\x02", 12, PgmKind::Short),
+        (b"P5\n3 1\n9\n\x01\x09\x0a", 11, PgmKind::Sample),
+        (
+            b"P5\n3 1\n300\n\x00\xff\x01\x2c\x01\x2d",
+            15,
+            PgmKind::Sample,
+        ),
     ];
     for (bytes, at, kind) in cases {
         for piece in [1, 2, 7, 4096] {
