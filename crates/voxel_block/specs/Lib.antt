@@ -1,3 +1,4 @@
 pub mod Blocks
 pub mod Keys
 pub mod Voxels
+pub mod Words

@@ -70,3 +70,12 @@ fn keys_are_ordered_by_x_then_y_then_z(rt: HostRuntime) -> Result<(), Fail> {
     }
     Ok(())
 }
+
+#[test]
+fn a_key_has_one_word(rt: HostRuntime) {
+    let key = BlockKey { x: 0, y: 0, z: 12 };
+    assert_eq!(rt; key.word(), 140739635871757);
+    assert_eq!(rt; BlockKey::of_word(140739635871757), Some(key));
+    assert_eq!(rt; BlockKey::of_word(0), None);
+    assert_eq!(rt; BlockKey::of_word(0x1_0000_0000_0001), None);
+}
