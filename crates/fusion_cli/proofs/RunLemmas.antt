@@ -5,20 +5,21 @@ use Rattle.std.proofs.lemmas.List.Folds.{concat-append}
 use Rattle.std.proofs.Math.Seq.{take-append-add}
 use Rattle.std.specs.List.{concat}
 use Rattle.std.specs.Io.KnownBytes.{Appends}
-use Rattle.scan_io.specs.Coming.{Kept, to_come}
-use Rattle.scan_io.specs.Reading.{held, Stream, stream, Leads, KnownCame, Came, Errors, KnownReads, Reads}
+use Rattle.scan_io.specs.Reading.{held, Stream, Leads, KnownCame, Came, Errors, KnownReads, Reads}
 use Rattle.scan_io.proofs.ReadingLemmas.{came_none}
-use Rattle.fusion_cli.specs.declared.config.Config.{Config}
-use Rattle.fusion_cli.specs.declared.reader.BadScan.{BadScan}
-use Rattle.fusion_cli.specs.declared.reader.Entry.{Entry}
-use Rattle.fusion_cli.specs.declared.reader.Entry.TheVariants.{Frame, Voxels, End}
-use Rattle.fusion_cli.specs.declared.reader.ScanError.{ScanError}
-use Rattle.fusion_cli.specs.declared.reader.ScanError.TheVariants as errors
+use Rattle.scan_lang.specs.Config.{Config}
+use Rattle.scan_lang.specs.declared.error.BadScan.{BadScan}
+use Rattle.scan_lang.specs.declared.entry.Entry.{Entry}
+use Rattle.scan_lang.specs.declared.entry.Entry.TheVariants.{Frame, Voxels, Sum, End}
+use Rattle.scan_lang.specs.declared.error.ScanError.{ScanError}
+use Rattle.scan_lang.specs.declared.error.ScanError.TheVariants as errors
 use Rattle.fusion_cli.specs.declared.run.Stop.TheVariants as stops
-use Rattle.fusion_cli.specs.Errors.{scan_errors}
-use Rattle.fusion_cli.specs.Lines.{bad}
-use Rattle.fusion_cli.specs.Scan.{Records, Scan, begin_of, entry_at, records_of, scan_of, refused, complete, with_entry}
-use Rattle.fusion_cli.specs.Output.{State, start, after, reply_text, replies_from, Output, output_of, output_from, output_in, all_bytes, first_bytes}
+use Rattle.scan_lang.specs.Readers.{scan_errors}
+use Rattle.scan_lang.specs.Places.{short}
+use Rattle.scan_lang.specs.Scan.{Begun, Read, Records, Scan, begin_of, entry_at, records_of, records_from, records_with, scan_of, refused, complete, with_entry, lines_behind_config}
+use Rattle.scan_lang.proofs.RecordLemmas.{further, records_step}
+use Rattle.session.specs.Fold.{State, start, after}
+use Rattle.session.specs.Output.{reply_text, replies_from, Output, output_of, output_from, output_in, all_bytes, first_bytes}
 use Rattle.fusion_cli.specs.Run.{Answers, ended, stop_of}
 
 -- ---- bytes written
@@ -32,15 +33,6 @@ appends_more None b c xs ys h k = tt
 appends_more (Some l) None c xs ys h k = absurd h
 appends_more (Some l) (Some m) None xs ys h k = absurd k
 appends_more (Some l) (Some m) (Some o) xs ys h k = k ∙ ap (λ (p : List ℕ). p ++ ys) h ∙ append_assoc l xs ys
-
--- a feed that keeps nothing has just what the source has left to come
-nothing_kept : (feed : Kept) (left : Option (List ℕ)) → feed.bytes ≡ [] → to_come feed left ≡ left
-nothing_kept feed None none = refl
-nothing_kept feed (Some rest) none = ap (λ (bytes : List ℕ). Some (bytes ++ rest)) none
-
--- so has a feed that was just made
-pub first_stream : (feed : Kept) (left : Option (List ℕ)) → feed ≡ record { bytes = []; given = 0 } → stream feed left ≡ record { come = left; given = 0 }
-first_stream feed left none = ap (λ (f : Kept). stream f left) none ∙ ap (λ (come : Option (List ℕ)). record { come = come; given = 0 }) (nothing_kept (record { bytes = []; given = 0 }) left refl)
 
 -- ---- a reader gave the next part, and what is left to do follows from it
 
@@ -70,14 +62,14 @@ came_through {errors = errors} {view = view} {whole = whole} {f = f} g {sub = su
 abbrev pub onward : List (List ℕ) → Output → Output
 onward done o = record { replies = done ++ o.replies; ending = o.ending }
 
--- these replies, and no more
-abbrev stopped : List (List ℕ) → Output
-stopped done = record { replies = done; ending = refused bad }
+-- these replies, and no more, since the scan is refused
+abbrev stopped : List (List ℕ) → BadScan → Output
+stopped done why = record { replies = done; ending = refused why }
 
 -- whatever follows, these replies come first, and a text that is refused ends with them
 record StopsAfter {Y : Type 0} (done : List (List ℕ)) (sub : List ℕ → Result (Y × List ℕ) BadScan) (f : List ℕ → Output) : Type 0 where
   first : (t : List ℕ) → (more : List (List ℕ)) × ((f t).replies ≡ done ++ more)
-  last : (t : List ℕ) (why : BadScan) → sub t ≡ Err why → f t ≡ stopped done
+  last : (t : List ℕ) (why : BadScan) → sub t ≡ Err why → f t ≡ stopped done why
 
 first_done : (done more : List (List ℕ)) (o : Output) → o.replies ≡ done ++ more → first_bytes (length done) o ≡ concat done
 first_done done more o is = ap (λ (l : List (List ℕ)). concat (take (length done) l)) is ∙ ap concat (take_at done more (length done) refl)
@@ -98,12 +90,12 @@ exit_known : {X Y : Type 0} (view : X → Y) (done : List (List ℕ)) (sub : Lis
 exit_known view done sub f e a b c None now new left old written stop h k grown = tt
 exit_known view done sub f e a b c (Some text) None new left old written stop h k grown = absurd h
 exit_known view done sub f (errors.Bad why) a b c (Some text) (Some rest) new left old written stop h k grown =
-    let is : output_of text ≡ stopped done = ap output_of h.is ∙ h.again rest ∙ stop.last rest why k in
+    let is : output_of text ≡ stopped done why = ap output_of h.is ∙ h.again rest ∙ stop.last rest why k in
     (ap (λ (o : Output). o.ending) is, rw is grown)
 exit_known view done sub f errors.ReadFault a b c (Some text) (Some rest) new None old written stop h k grown = absurd k
-exit_known view done sub f errors.ReadFault a b c (Some text) (Some rest) new (Some further) old written stop h k grown =
-    let is : output_of (h.front ++ k.0) ≡ stopped done = h.again k.0 ∙ stop.last k.0 bad k.3 in
-    (h.front ++ k.0, h.is ∙ ap (λ (l : List ℕ). h.front ++ l) k.2 ∙ sym (append_assoc h.front k.0 further), ap (λ (o : Output). o.ending) is, rw is grown)
+exit_known view done sub f errors.ReadFault a b c (Some text) (Some rest) new (Some more) old written stop h k grown =
+    let is : output_of (h.front ++ k.0) ≡ stopped done (short k.1) = h.again k.0 ∙ stop.last k.0 (short k.1) k.3 in
+    (h.front ++ k.0, h.is ∙ ap (λ (l : List ℕ). h.front ++ l) k.2 ∙ sym (append_assoc h.front k.0 more), (k.1, ap (λ (o : Output). o.ending) is), rw is grown)
 exit_known view done sub f errors.NoMemory a b c (Some text) (Some rest) new left old written stop h k grown = memory_known done f a b (Some text) (Some rest) left old written h stop.first grown
 
 -- ---- the configuration line
@@ -116,156 +108,149 @@ begin_stops = record {
 }
 
 -- it can't be read
-pub exit_begin : {X : Type 0} (view : X → Config) (e : ScanError) (before new : Stream) (left written : Option (List ℕ)) → Reads {X = X} scan_errors view begin_of before new left (Err e) → Answers before.come left written written (ended (Err (stop_of e)))
+pub exit_begin : {X : Type 0} (view : X → Begun) (e : ScanError) (before new : Stream) (left written : Option (List ℕ)) → Reads {X = X} scan_errors view begin_of before new left (Err e) → Answers before.come left written written (ended (Err (stop_of e)))
 exit_begin view e before new left written h =
     exit_known view [] begin_of output_of e before.given before.given new.given before.come before.come new.come left written written begin_stops (came_none output_of before).known h.known (none_written written)
+
+-- the entry does not end the scan
+abbrev pub GoesOn : Entry → Type 0
+GoesOn e = e ≡ End → ⊥
+
+goes_on : (e : Entry) (rs : Records) → GoesOn e → records_with e rs ≡ with_entry e rs
+goes_on (Frame rows depths) rs on = refl
+goes_on Voxels rs on = refl
+goes_on Sum rs on = refl
+goes_on End rs on = absurd (on refl)
 
 module _ (c : Config) where
   -- ---- one entry more or none
 
-  no_entry : (n : ℕ) (text : List ℕ) (why : BadScan) → entry_at c text ≡ Err why → records_of c (suc n) text ≡ record { entries = []; ending = refused bad }
-  unfolding records_of
-  no_entry n text why h = rw h refl
+  no_entry : (n place : ℕ) (text : List ℕ) (why : BadScan) → entry_at n place text ≡ Err why → records_of n place text ≡ record { entries = []; ending = refused why }
+  no_entry n place text why h = records_step n place text ∙ ap (records_from further) h
 
-  no_line : (text : List ℕ) → records_of c 0 text ≡ record { entries = []; ending = refused bad }
-  unfolding records_of
-  no_line text = refl
+  one_entry : (n place : ℕ) (text : List ℕ) (r : Read) (more : List ℕ) → GoesOn r.entry → entry_at n place text ≡ Ok (r, more) → records_of n place text ≡ with_entry r.entry (records_of r.left r.place more)
+  one_entry n place text r more on h = records_step n place text ∙ ap (records_from further) h ∙ goes_on r.entry (further r more) on
 
-  -- the entry does not end the scan
-  abbrev pub GoesOn : Entry → Type 0
-  GoesOn e = e ≡ End → ⊥
-
-  one_entry : (n : ℕ) (text : List ℕ) (e : Entry) (more : List ℕ) → GoesOn e → entry_at c text ≡ Ok (e, more) → records_of c (suc n) text ≡ with_entry e (records_of c n more)
-  unfolding records_of
-  one_entry n text (Frame pose depths) more on h = rw h refl
-  one_entry n text Voxels more on h = rw h refl
-  one_entry n text End more on h = absurd (on refl)
-
-  end_entry : (n : ℕ) (text more : List ℕ) → entry_at c text ≡ Ok (End, more) → records_of c (suc n) text ≡ record { entries = End ∷ []; ending = complete }
-  unfolding records_of
-  end_entry n text more h = rw h refl
+  end_entry : (n place : ℕ) (text : List ℕ) (r : Read) (more : List ℕ) → r.entry ≡ End → entry_at n place text ≡ Ok (r, more) → records_of n place text ≡ record { entries = End ∷ []; ending = complete }
+  end_entry n place text r more is_end h = records_step n place text ∙ ap (records_from further) h ∙ ap (λ (e : Entry). records_with e (further r more)) is_end
 
   -- ---- what stands in the middle of a run
 
-  -- the output of a text whose front was acted on, with these replies and this state, where at most n lines may follow
-  abbrev pub output_behind : List (List ℕ) → State → ℕ → List ℕ → Output
-  output_behind done s n other = onward done (output_from c s (records_of c n other))
+  -- the output of a text whose front was acted on, with these replies and this state, where so many lines may follow at a place
+  abbrev pub output_behind : List (List ℕ) → State → (left place : ℕ) → List ℕ → Output
+  output_behind done s n place other = onward done (output_from c s (records_of n place other))
 
   -- the run so far
-  pub record Running (before now : Stream) (n : ℕ) (s : State) (old written : Option (List ℕ)) : Type 0 where
+  pub record Running (before now : Stream) (left place : ℕ) (s : State) (old written : Option (List ℕ)) : Type 0 where
     pub done : List (List ℕ)
-    pub came : Came output_of (output_behind done s n) before now
+    pub came : Came output_of (output_behind done s left place) before now
     pub grown : Appends old written (concat done)
 
-  output_begun : (text rest : List ℕ) → begin_of text ≡ Ok (c, rest) → output_of text ≡ output_behind [] start 999999 rest
+  output_begun : (text rest : List ℕ) (b : Begun) → b.config ≡ c → begin_of text ≡ Ok (b, rest) → output_of text ≡ output_behind [] start lines_behind_config b.place rest
   unfolding output_of scan_of
-  output_begun text rest h = rw h refl
+  output_begun text rest b is h = rw h (ap (λ (k : Config). output_from k start (records_of lines_behind_config b.place rest)) is)
 
-  pub starts : (before now : Stream) (between written : Option (List ℕ)) → Reads scan_errors (λ x. x) begin_of before now between (Ok c) → Running before now 999999 start written written
-  starts before now between written h = record {
+  pub starts : {X : Type 0} (view : X → Begun) (x : X) (before now : Stream) (between written : Option (List ℕ)) → (view x).config ≡ c → Reads scan_errors view begin_of before now between (Ok x)
+      → Running before now lines_behind_config (view x).place start written written
+  starts view x before now between written is h = record {
     done = [];
-    came = came_through (output_behind [] start 999999) (came_none output_of before) h output_begun;
+    came = came_through (output_behind [] start lines_behind_config (view x).place) (came_none output_of before) h (λ t rest k. output_begun t rest (view x) is k);
     grown = none_written written;
   }
 
-  behind_entry : (done : List (List ℕ)) (s : State) (n : ℕ) (e : Entry) (text rest : List ℕ) → GoesOn e → entry_at c text ≡ Ok (e, rest) → output_behind done s (suc n) text ≡ output_behind (done ++ reply_text c s e ∷ []) (after c s e) n rest
-  behind_entry done s n e text rest on h =
-      ap (λ (r : Records). onward done (output_from c s r)) (one_entry n text e rest on h)
-      ∙ ap (λ (rs : List (List ℕ)). record { replies = rs; ending = (records_of c n rest).ending }) (sym (append_assoc done (reply_text c s e ∷ []) (replies_from c (after c s e) (records_of c n rest).entries)))
+  behind_entry : (done : List (List ℕ)) (s : State) (n place : ℕ) (r : Read) (text rest : List ℕ) → GoesOn r.entry → entry_at n place text ≡ Ok (r, rest) → output_behind done s n place text ≡ output_behind (done ++ reply_text c s r.entry ∷ []) (after c s r.entry) r.left r.place rest
+  behind_entry done s n place r text rest on h =
+      ap (λ (rs : Records). onward done (output_from c s rs)) (one_entry n place text r rest on h)
+      ∙ ap (λ (ts : List (List ℕ)). record { replies = ts; ending = (records_of r.left r.place rest).ending }) (sym (append_assoc done (reply_text c s r.entry ∷ []) (replies_from c (after c s r.entry) (records_of r.left r.place rest).entries)))
 
   -- a reply was written
-  pub goes_further : (e : Entry) (before now new : Stream) (between : Option (List ℕ)) (n : ℕ) (s : State) (old mid written : Option (List ℕ)) → GoesOn e → Running before now (suc n) s old mid → Reads scan_errors (λ x. x) (entry_at c) now new between (Ok e)
-      → Appends mid written (reply_text c s e) → Running before new n (after c s e) old written
-  goes_further e before now new between n s old mid written on run h more = record {
-    done = run.done ++ reply_text c s e ∷ [];
-    came = came_through (output_behind (run.done ++ reply_text c s e ∷ []) (after c s e) n) run.came h (λ t rest is. behind_entry run.done s n e t rest on is);
-    grown = rw (concat-append run.done (reply_text c s e ∷ []), append-nil (reply_text c s e)) (appends_more old mid written (concat run.done) (reply_text c s e) run.grown more);
+  pub goes_further : {X : Type 0} (view : X → Read) (x : X) (before now new : Stream) (between : Option (List ℕ)) (n place : ℕ) (s : State) (old mid written : Option (List ℕ)) → GoesOn (view x).entry → Running before now n place s old mid → Reads scan_errors view (entry_at n place) now new between (Ok x)
+      → Appends mid written (reply_text c s (view x).entry) → Running before new (view x).left (view x).place (after c s (view x).entry) old written
+  goes_further view x before now new between n place s old mid written on run h more = record {
+    done = run.done ++ reply_text c s (view x).entry ∷ [];
+    came = came_through (output_behind (run.done ++ reply_text c s (view x).entry ∷ []) (after c s (view x).entry) (view x).left (view x).place) run.came h (λ t rest is. behind_entry run.done s n place (view x) t rest on is);
+    grown = rw (concat-append run.done (reply_text c s (view x).entry ∷ []), append-nil (reply_text c s (view x).entry)) (appends_more old mid written (concat run.done) (reply_text c s (view x).entry) run.grown more);
   }
 
   -- ---- its exits
 
-  behind_first : (done : List (List ℕ)) (s : State) (n : ℕ) (t : List ℕ) → (more : List (List ℕ)) × ((output_behind done s n t).replies ≡ done ++ more)
-  behind_first done s n t = (replies_from c s (records_of c n t).entries, refl)
+  behind_first : (done : List (List ℕ)) (s : State) (n place : ℕ) (t : List ℕ) → (more : List (List ℕ)) × ((output_behind done s n place t).replies ≡ done ++ more)
+  behind_first done s n place t = (replies_from c s (records_of n place t).entries, refl)
 
-  behind_none : (done : List (List ℕ)) (s : State) (n : ℕ) (text : List ℕ) → records_of c n text ≡ record { entries = []; ending = refused bad } → output_behind done s n text ≡ stopped done
-  behind_none done s n text is =
-      ap (λ (r : Records). onward done (output_from c s r)) is ∙ ap (λ (rs : List (List ℕ)). record { replies = rs; ending = refused bad }) (append-nil done)
+  behind_none : (done : List (List ℕ)) (s : State) (n place : ℕ) (text : List ℕ) (why : BadScan) → records_of n place text ≡ record { entries = []; ending = refused why } → output_behind done s n place text ≡ stopped done why
+  behind_none done s n place text why is =
+      ap (λ (rs : Records). onward done (output_from c s rs)) is ∙ ap (λ (ts : List (List ℕ)). record { replies = ts; ending = refused why }) (append-nil done)
 
-  entry_stops : (done : List (List ℕ)) (s : State) (n : ℕ) → StopsAfter done (entry_at c) (output_behind done s (suc n))
-  entry_stops done s n = record {
-    first = behind_first done s (suc n);
-    last = λ t why h. behind_none done s (suc n) t (no_entry n t why h);
+  entry_stops : (done : List (List ℕ)) (s : State) (n place : ℕ) → StopsAfter done (entry_at n place) (output_behind done s n place)
+  entry_stops done s n place = record {
+    first = behind_first done s n place;
+    last = λ t why h. behind_none done s n place t why (no_entry n place t why h);
   }
 
   -- the next entry can't be read
-  pub exit_entry : {X : Type 0} (view : X → Entry) (e : ScanError) (before now new : Stream) (left : Option (List ℕ)) (n : ℕ) (s : State) (old written : Option (List ℕ)) → Running before now (suc n) s old written → Reads {X = X} scan_errors view (entry_at c) now new left (Err e)
+  pub exit_entry : {X : Type 0} (view : X → Read) (e : ScanError) (before now new : Stream) (left : Option (List ℕ)) (n place : ℕ) (s : State) (old written : Option (List ℕ)) → Running before now n place s old written → Reads {X = X} scan_errors view (entry_at n place) now new left (Err e)
       → Answers before.come left old written (ended (Err (stop_of e)))
-  exit_entry view e before now new left n s old written run h =
-      exit_known view run.done (entry_at c) (output_behind run.done s (suc n)) e before.given now.given new.given before.come now.come new.come left old written (entry_stops run.done s n) run.came.known h.known run.grown
+  exit_entry view e before now new left n place s old written run h =
+      exit_known view run.done (entry_at n place) (output_behind run.done s n place) e before.given now.given new.given before.come now.come new.come left old written (entry_stops run.done s n place) run.came.known h.known run.grown
 
   -- memory was wanting
-  pub exit_memory : (before now : Stream) (left : Option (List ℕ)) (n : ℕ) (s : State) (old written : Option (List ℕ)) → Running before now n s old written → Answers before.come left old written (ended (Err stops.NoMemory))
-  exit_memory before now left n s old written run =
-      memory_known run.done (output_behind run.done s n) before.given now.given before.come now.come left old written run.came.known (behind_first run.done s n) run.grown
-
-  lines_known : (done : List (List ℕ)) (s : State) (a b : ℕ) (before now left old written : Option (List ℕ)) → KnownCame output_of (output_behind done s 0) a b before now → Appends old written (concat done) → Answers before left old written (ended (Err stops.BadScan))
-  lines_known done s a b None now left old written h grown = tt
-  lines_known done s a b (Some text) None left old written h grown = absurd h
-  lines_known done s a b (Some text) (Some rest) left old written h grown =
-      let is : output_of text ≡ stopped done = ap output_of h.is ∙ h.again rest ∙ behind_none done s 0 rest (no_line rest) in
-      (ap (λ (o : Output). o.ending) is, rw is grown)
-
-  -- no line is left
-  pub exit_lines : (before now : Stream) (left : Option (List ℕ)) (n : ℕ) (s : State) (old written : Option (List ℕ)) → n ≡ 0 → Running before now n s old written → Answers before.come left old written (ended (Err stops.BadScan))
-  exit_lines before now left zero s old written none run = lines_known run.done s before.given now.given before.come now.come left old written run.came.known run.grown
-  exit_lines before now left (suc n) s old written none run = absurd (omega arith)
+  pub exit_memory : (before now : Stream) (left : Option (List ℕ)) (n place : ℕ) (s : State) (old written : Option (List ℕ)) → Running before now n place s old written → Answers before.come left old written (ended (Err stops.NoMemory))
+  exit_memory before now left n place s old written run =
+      memory_known run.done (output_behind run.done s n place) before.given now.given before.come now.come left old written run.came.known (behind_first run.done s n place) run.grown
 
   -- the output of a text whose next entry is known
-  entry_known : (e : Entry) (done : List (List ℕ)) (s : State) (n a b d : ℕ) (text : List ℕ) (now new left : Option (List ℕ)) → KnownCame output_of (output_behind done s (suc n)) a b (Some text) now → KnownReads scan_errors (λ x. x) (entry_at c) b d now new left (Ok e)
-      → (rest more : List ℕ) × (output_of text ≡ output_behind done s (suc n) rest) × (entry_at c rest ≡ Ok (e, more))
-  entry_known e done s n a b d text None new left h k = absurd h
-  entry_known e done s n a b d text (Some rest) None left h k = absurd k
-  entry_known e done s n a b d text (Some rest) (Some more) left h k = (rest, more, ap output_of h.is ∙ h.again rest, ap (entry_at c) k.is ∙ k.again more)
+  entry_known : {X : Type 0} (view : X → Read) (x : X) (done : List (List ℕ)) (s : State) (n place a b d : ℕ) (text : List ℕ) (now new left : Option (List ℕ)) → KnownCame output_of (output_behind done s n place) a b (Some text) now → KnownReads scan_errors view (entry_at n place) b d now new left (Ok x)
+      → (rest more : List ℕ) × (output_of text ≡ output_behind done s n place rest) × (entry_at n place rest ≡ Ok (view x, more))
+  entry_known view x done s n place a b d text None new left h k = absurd h
+  entry_known view x done s n place a b d text (Some rest) None left h k = absurd k
+  entry_known view x done s n place a b d text (Some rest) (Some more) left h k = (rest, more, ap output_of h.is ∙ h.again rest, ap (entry_at n place) k.is ∙ k.again more)
 
-  end_output : (done : List (List ℕ)) (s : State) (n : ℕ) (rest more : List ℕ) → entry_at c rest ≡ Ok (End, more) → output_behind done s (suc n) rest ≡ record { replies = done ++ reply_text c s End ∷ []; ending = complete }
-  end_output done s n rest more h = ap (λ (r : Records). onward done (output_from c s r)) (end_entry n rest more h)
+  end_output : (done : List (List ℕ)) (s : State) (n place : ℕ) (rest : List ℕ) (r : Read) (more : List ℕ) → r.entry ≡ End → entry_at n place rest ≡ Ok (r, more) → output_behind done s n place rest ≡ record { replies = done ++ reply_text c s End ∷ []; ending = complete }
+  end_output done s n place rest r more is_end h = ap (λ (rs : Records). onward done (output_from c s rs)) (end_entry n place rest r more is_end h)
 
-  end_known : (e : Entry) (done : List (List ℕ)) (s : State) (n a b d : ℕ) (before now new left old mid written : Option (List ℕ)) → e ≡ End → KnownCame output_of (output_behind done s (suc n)) a b before now → KnownReads scan_errors (λ x. x) (entry_at c) b d now new left (Ok e)
-      → Appends old mid (concat done) → Appends mid written (reply_text c s e) → Answers before left old written (ended (Ok tt))
-  end_known e done s n a b d None now new left old mid written is_end h k grown more = tt
-  end_known e done s n a b d (Some text) now new left old mid written is_end h k grown more =
-      let p = entry_known e done s n a b d text now new left h k in
-      let is = p.2 ∙ end_output done s n p.0 p.1 (p.3 ∙ ap (λ (x : Entry). Ok (x, p.1)) is_end) in
+  end_known : {X : Type 0} (view : X → Read) (x : X) (done : List (List ℕ)) (s : State) (n place a b d : ℕ) (before now new left old mid written : Option (List ℕ)) → (view x).entry ≡ End → KnownCame output_of (output_behind done s n place) a b before now → KnownReads scan_errors view (entry_at n place) b d now new left (Ok x)
+      → Appends old mid (concat done) → Appends mid written (reply_text c s (view x).entry) → Answers before left old written (ended (Ok tt))
+  end_known view x done s n place a b d None now new left old mid written is_end h k grown more = tt
+  end_known view x done s n place a b d (Some text) now new left old mid written is_end h k grown more =
+      let p = entry_known view x done s n place a b d text now new left h k in
+      let is = p.2 ∙ end_output done s n place p.0 (view x) p.1 is_end p.3 in
       let bytes : concat (done ++ reply_text c s End ∷ []) ≡ concat done ++ reply_text c s End = concat-append done (reply_text c s End ∷ []) ∙ ap (λ (l : List ℕ). concat done ++ l) (append-nil (reply_text c s End)) in
       (ap (λ (o : Output). o.ending) is, rw (is, bytes) (appends_more old mid written (concat done) (reply_text c s End) grown (rw is_end at more)))
 
   -- the scan ends
-  pub exit_end : (e : Entry) (before now new : Stream) (left : Option (List ℕ)) (n : ℕ) (s : State) (old mid written : Option (List ℕ)) → e ≡ End → Running before now (suc n) s old mid → Reads scan_errors (λ x. x) (entry_at c) now new left (Ok e)
-      → Appends mid written (reply_text c s e) → Answers before.come left old written (ended (Ok tt))
-  exit_end e before now new left n s old mid written is_end run h more =
-      end_known e run.done s n before.given now.given new.given before.come now.come new.come left old mid written is_end run.came.known h.known run.grown more
+  pub exit_end : {X : Type 0} (view : X → Read) (x : X) (before now new : Stream) (left : Option (List ℕ)) (n place : ℕ) (s : State) (old mid written : Option (List ℕ)) → (view x).entry ≡ End → Running before now n place s old mid → Reads scan_errors view (entry_at n place) now new left (Ok x)
+      → Appends mid written (reply_text c s (view x).entry) → Answers before.come left old written (ended (Ok tt))
+  exit_end view x before now new left n place s old mid written is_end run h more =
+      end_known view x run.done s n place before.given now.given new.given before.come now.come new.come left old mid written is_end run.came.known h.known run.grown more
 
-  first_reply : (rest : List ℕ) (e : Entry) (more : List ℕ) (n : ℕ) (s : State) → entry_at c rest ≡ Ok (e, more) → (tail : List (List ℕ)) × ((output_from c s (records_of c (suc n) rest)).replies ≡ reply_text c s e ∷ tail)
-  first_reply rest (Frame pose depths) more n s h = (_, ap (λ (r : Records). replies_from c s r.entries) (one_entry n rest (Frame pose depths) more (λ e. cc) h))
-  first_reply rest Voxels more n s h = (_, ap (λ (r : Records). replies_from c s r.entries) (one_entry n rest Voxels more (λ e. cc) h))
-  first_reply rest End more n s h = (_, ap (λ (r : Records). replies_from c s r.entries) (end_entry n rest more h))
+  first_of : (e : Entry) (s : State) (rs : Records) → (tail : List (List ℕ)) × ((output_from c s (records_with e rs)).replies ≡ reply_text c s e ∷ tail)
+  first_of (Frame rows depths) s rs = (_, refl)
+  first_of Voxels s rs = (_, refl)
+  first_of Sum s rs = (_, refl)
+  first_of End s rs = (_, refl)
+
+  first_reply : (rest : List ℕ) (r : Read) (more : List ℕ) (n place : ℕ) (s : State) → entry_at n place rest ≡ Ok (r, more) → (tail : List (List ℕ)) × ((output_from c s (records_of n place rest)).replies ≡ reply_text c s r.entry ∷ tail)
+  first_reply rest r more n place s h =
+      let f = first_of r.entry s (further r more) in
+      (f.0, ap (λ (rs : Records). (output_from c s rs).replies) (records_step n place rest ∙ ap (records_from further) h) ∙ f.1)
 
   front_of : (a b d : List ℕ) (k : ℕ) → take (length a + length (take k b)) (a ++ (b ++ d)) ≡ a ++ take k b
   front_of a b d k =
       let split : b ++ d ≡ take k b ++ (drop k b ++ d) = sym (ap (λ (l : List ℕ). l ++ d) (take-append-drop k b)) ∙ append_assoc (take k b) (drop k b) d in
       take-append-add a (b ++ d) (length (take k b)) ∙ ap (λ (l : List ℕ). a ++ l) (ap (take (length (take k b))) split ∙ take_at (take k b) (drop k b ++ d) (length (take k b)) refl)
 
-  write_known : (e : Entry) (done : List (List ℕ)) (s : State) (n k a b d : ℕ) (before now new left old mid written : Option (List ℕ)) → KnownCame output_of (output_behind done s (suc n)) a b before now → KnownReads scan_errors (λ x. x) (entry_at c) b d now new left (Ok e)
-      → Appends old mid (concat done) → Appends mid written (take k (reply_text c s e)) → Answers before left old written (ended (Err stops.WriteFault))
-  write_known e done s n k a b d None now new left old mid written h r grown more = tt
-  write_known e done s n k a b d (Some text) now new left old mid written h r grown more =
-      let p = entry_known e done s n a b d text now new left h r in
-      let first = first_reply p.0 e p.1 n s p.3 in
-      let bytes : all_bytes (output_of text) ≡ concat done ++ (reply_text c s e ++ concat first.0) = ap all_bytes p.2 ∙ ap (λ (rs : List (List ℕ)). concat (done ++ rs)) first.1 ∙ concat-append done (reply_text c s e ∷ first.0) in
-      (length (concat done) + length (take k (reply_text c s e)), rw (bytes, front_of (concat done) (reply_text c s e) (concat first.0) k) (appends_more old mid written (concat done) (take k (reply_text c s e)) grown more))
+  write_known : {X : Type 0} (view : X → Read) (x : X) (done : List (List ℕ)) (s : State) (n place k a b d : ℕ) (before now new left old mid written : Option (List ℕ)) → KnownCame output_of (output_behind done s n place) a b before now → KnownReads scan_errors view (entry_at n place) b d now new left (Ok x)
+      → Appends old mid (concat done) → Appends mid written (take k (reply_text c s (view x).entry)) → Answers before left old written (ended (Err stops.WriteFault))
+  write_known view x done s n place k a b d None now new left old mid written h r grown more = tt
+  write_known view x done s n place k a b d (Some text) now new left old mid written h r grown more =
+      let bytes_of = reply_text c s (view x).entry in
+      let p = entry_known view x done s n place a b d text now new left h r in
+      let first = first_reply p.0 (view x) p.1 n place s p.3 in
+      let bytes : all_bytes (output_of text) ≡ concat done ++ (bytes_of ++ concat first.0) = ap all_bytes p.2 ∙ ap (λ (rs : List (List ℕ)). concat (done ++ rs)) first.1 ∙ concat-append done (bytes_of ∷ first.0) in
+      (length (concat done) + length (take k bytes_of), rw (bytes, front_of (concat done) bytes_of (concat first.0) k) (appends_more old mid written (concat done) (take k bytes_of) grown more))
 
   -- the sink failed
-  pub exit_write : (e : Entry) (before now new : Stream) (left : Option (List ℕ)) (n : ℕ) (s : State) (old mid written : Option (List ℕ)) (k : ℕ) → Running before now (suc n) s old mid → Reads scan_errors (λ x. x) (entry_at c) now new left (Ok e)
-      → Appends mid written (take k (reply_text c s e)) → Answers before.come left old written (ended (Err stops.WriteFault))
-  exit_write e before now new left n s old mid written k run h more =
-      write_known e run.done s n k before.given now.given new.given before.come now.come new.come left old mid written run.came.known h.known run.grown more
+  pub exit_write : {X : Type 0} (view : X → Read) (x : X) (before now new : Stream) (left : Option (List ℕ)) (n place : ℕ) (s : State) (old mid written : Option (List ℕ)) (k : ℕ) → Running before now n place s old mid → Reads scan_errors view (entry_at n place) now new left (Ok x)
+      → Appends mid written (take k (reply_text c s (view x).entry)) → Answers before.come left old written (ended (Err stops.WriteFault))
+  exit_write view x before now new left n place s old mid written k run h more =
+      write_known view x run.done s n place k before.given now.given new.given before.come now.come new.come left old mid written run.came.known h.known run.grown more

@@ -1,25 +1,7 @@
 //! Fuses depth maps into a truncated signed distance map.
 #![tactic(auto)]
 
-mod band;
-mod camera;
-mod config;
-mod frame;
-mod frame_line;
-mod grid;
-mod kernel;
-mod laws;
-mod line;
-mod map;
-mod projection;
-mod raster;
-mod ray;
-mod reader;
-mod reply;
 mod run;
-mod segment;
-mod session;
-mod sphere;
 mod status;
 #[cfg(test)]
 mod tests;

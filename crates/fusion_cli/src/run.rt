@@ -1,22 +1,28 @@
-ghost use Rattle.std.specs.Prelude.{◌≡◌, ◌≤◌, ◌⊎◌, ◌↔◌, true, false, map, string_bytes, ℕ, take, OnOk, OnErr, IfErr, IsErrOf};
+ghost use Rattle.std.specs.Prelude.{◌≡◌, ◌≤◌, ◌⊎◌, ◌↔◌, true, false, map, string_bytes, ℕ, take, OnOk, OnErr, IfOk, IfErr, IsErrOf};
 ghost use Rattle.std.specs.Io.KnownBytes.{Appends};
 ghost use Rattle.scan_io.specs.Causes.{Rose, HasCause};
+ghost use Rattle.session.specs.Fold.{after, reply_to};
+ghost use Rattle.scan_lang.specs.declared.entry.Entry.TheVariants as entries;
 ghost use Rattle.fusion_cli.specs.Run.{is_fuse as is_fuse_command, Answers, IsWhole, ended, stop_of};
 ghost use Rattle.fusion_cli.specs.declared.run.Stop.TheVariants.{NoMemory as no_memory};
 
-use crate::reader::{ScanError, read_begin, read_entry};
-use crate::session::Session;
 use crate::status::Status;
-use scan_io::{Feed, NoMemory, Sink, Source, put_all};
-use std::alloc::{AllocError, Global};
+use depth_frame::DepthFrame;
+use fixed_geom::{BadPose, PoseRows};
+use scan_io::{Sink, Source, put_all};
+use scan_lang::{BadScan, Entry, Reply, ScanError, ScanReader, VoxelList, reply_bytes};
+use session::{FrameError, ReadError, Session};
+use std::alloc::Global;
+use voxel_block::NoMemory;
 
-const RECORDS_LIMIT: u32 = 999_999;
+/// A scan has at most so many lines, and each record has one of its own.
+const RECORDS_LIMIT: u32 = 1_000_000;
 
 /// Why a run stops before the end of the scan.
 #[derive(Clone, Copy, Debug, PartialEq, Eq)]
 pub enum Stop {
     NoMemory,
-    BadScan,
+    BadScan(BadScan),
     ReadFault,
     WriteFault,
 }
@@ -29,10 +35,10 @@ impl From<NoMemory> for Stop {
     }
 }
 
-impl From<AllocError> for Stop {
+impl From<ReadError> for Stop {
     ghost from_gives = { λ _ e. e ≡ no_memory };
 
-    fn from(_: AllocError) -> Self {
+    fn from(_: ReadError) -> Self {
         Stop::NoMemory
     }
 }
@@ -42,7 +48,7 @@ impl From<ScanError> for Stop {
 
     fn from(error: ScanError) -> Self {
         match error {
-            ScanError::Bad(_) => Stop::BadScan,
+            ScanError::Bad(why) => Stop::BadScan(why),
             ScanError::ReadFault => Stop::ReadFault,
             ScanError::NoMemory => Stop::NoMemory,
         }
@@ -81,7 +87,7 @@ pub fn run_fusion<S: Source, K: Sink>(
     match run_scan(alloc, source, sink) {
         Ok(()) => Status::Done,
         Err(Stop::NoMemory) => Status::NoMemory,
-        Err(Stop::BadScan) => Status::BadScan,
+        Err(Stop::BadScan(why)) => Status::BadScan(why),
         Err(Stop::ReadFault) => Status::ReadFault,
         Err(Stop::WriteFault) => Status::WriteFault,
     }
@@ -103,19 +109,58 @@ fn run_scan<S: Source, K: Sink>(alloc: Global, source: &mut S, sink: &mut K) -> 
     ensures read { IsErrOf result Stop.ReadFault → Rose (S.faults source.old) (S.faults source.new) }
     ensures write { IsErrOf result Stop.WriteFault → Rose (K.faults sink.old) (K.faults sink.new) }
 {
-    let mut feed = Feed::make(alloc)?;
-    let config = read_begin(alloc, &mut feed, source)?;
-    let mut session = Session::new(alloc);
+    let (config, mut reader) = ScanReader::begin(alloc, source)?;
+    let mut session = Session::start(alloc, config)?;
     for _ in 0..RECORDS_LIMIT {
-        let entry = read_entry(alloc, &config, &mut feed, source)?;
+        let entry = reader.next(alloc, source)?;
         let is_end = entry.is_end();
-        let reply = session.answer(alloc, &config, entry)?;
-        put_reply(sink, &reply)?;
+        let reply = act(alloc, &mut session, entry)?;
+        let bytes = reply_bytes(alloc, &reply)?;
+        put_reply(sink, &bytes)?;
         if is_end {
             return Ok(());
         }
     }
-    Err(Stop::BadScan)
+    // It does not come here: the reader gives no more records than a scan may have lines.
+    Ok(())
+}
+
+/// Acts on an entry, and gives the reply to it.
+fn act(alloc: Global, session: &mut Session, entry: Entry) -> Result<Reply, Stop>
+    ensures reply { IfOk result (λ r. r ≡ reply_to session.old.config session.old.state entry) }
+    ensures state { OnOk result (session.new ≡ record { config = session.old.config; state = after session.old.config session.old.state entry }) }
+    ensures error { IfErr result (λ e. e ≡ Stop.NoMemory) }
+{
+    match entry {
+        Entry::Frame(rows, depths) => fuse(alloc, session, &rows, depths),
+        Entry::Voxels => {
+            let (blocks, known) = session.voxels(alloc)?;
+            Ok(Reply::Voxels(blocks, VoxelList::make(known)))
+        }
+        Entry::Sum => Ok(Reply::Totals(session.totals()?)),
+        Entry::End => Ok(Reply::End),
+    }
+}
+
+/// Fuses a frame, and gives the reply to it.
+fn fuse(
+    alloc: Global,
+    session: &mut Session,
+    rows: &PoseRows,
+    depths: DepthFrame,
+) -> Result<Reply, Stop>
+    ensures reply { IfOk result (λ r. r ≡ reply_to session.old.config session.old.state (entries.Frame rows.now depths)) }
+    ensures state { OnOk result (session.new ≡ record { config = session.old.config; state = after session.old.config session.old.state (entries.Frame rows.now depths) }) }
+    ensures error { IfErr result (λ e. e ≡ Stop.NoMemory) }
+{
+    match session.frame(alloc, rows, depths) {
+        Ok(done) => Ok(Reply::Frame(done)),
+        Err(FrameError::Size { .. }) => Ok(Reply::Size),
+        Err(FrameError::BadPose(BadPose::Range)) => Ok(Reply::PoseRange),
+        Err(FrameError::BadPose(BadPose::NotRotation)) => Ok(Reply::PoseRotation),
+        Err(FrameError::HeapSpent { limit }) => Ok(Reply::HeapSpent(limit)),
+        Err(FrameError::NoMemory) => Err(Stop::NoMemory),
+    }
 }
 
 fn put_reply<K: Sink>(sink: &mut K, reply: &[u8]) -> Result<(), Stop>

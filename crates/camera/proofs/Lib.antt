@@ -1,0 +1,10 @@
+pub mod CameraLemmas
+pub mod GridLemmas
+pub mod KeyLemmas
+pub mod Machine
+pub mod OpeningLemmas
+pub mod ProjectionLemmas
+pub mod RangeLemmas
+pub mod RayLemmas
+pub mod Readings
+pub mod SphereLemmas

@@ -1,0 +1,155 @@
+-- A camera: its rays and its projection, the depths that it takes, the opening test and the active sphere.
+use Rattle.std.specs.Prelude.{ℕ, ◌==◌, ◌&&◌, Bool, ℤ, pos, ◌+ℤ◌, ◌-ℤ◌, ◌*ℤ◌, ◌≤ℤ◌, int_le, unsigned_abs, Option, None, Some, if◌then◌else◌}
+use Rattle.std.specs.Int.{int_max}
+use Rattle.fixed_geom.specs.Division.{floor_div}
+use Rattle.fixed_geom.specs.declared.vector.Vec3.{Vec3}
+use Rattle.fixed_geom.specs.Vectors.{vec}
+use Rattle.fixed_geom.specs.Poses.{Pose, cam}
+use Rattle.voxel_block.specs.declared.key.BlockKey.{BlockKey}
+use Rattle.camera.specs.Grid.{centre_of}
+use Rattle.camera.specs.declared.camera.CameraFields.{CameraFields}
+
+-- z is in the range from low to high
+abbrev pub within : (low high z : ℤ) → Bool
+within low high z = int_le low z && int_le z high
+
+-- ---- the ranges of the fields
+
+-- each field is in its range
+pub record HasRanges (k : CameraFields) : Type 0 where
+  pub width : pos 1 ≤ℤ k.width
+  pub width_high : k.width ≤ℤ pos 2048
+  pub height : pos 1 ≤ℤ k.height
+  pub height_high : k.height ≤ℤ pos 2048
+  pub fx : pos 1 ≤ℤ k.fx
+  pub fx_high : k.fx ≤ℤ pos 1073741824
+  pub fy : pos 1 ≤ℤ k.fy
+  pub fy_high : k.fy ≤ℤ pos 1073741824
+  pub cx : pos 0 ≤ℤ k.cx
+  pub cx_high : k.cx ≤ℤ (pos 65536 *ℤ k.width)
+  pub cy : pos 0 ≤ℤ k.cy
+  pub cy_high : k.cy ≤ℤ (pos 65536 *ℤ k.height)
+  pub unit : pos 1 ≤ℤ k.unit
+  pub unit_high : k.unit ≤ℤ pos 100000
+  pub near : pos 1 ≤ℤ k.near
+  pub far : k.near ≤ℤ k.far
+  pub far_high : k.far ≤ℤ pos 16000000
+  pub voxel : pos 1000 ≤ℤ k.voxel
+  pub voxel_high : k.voxel ≤ℤ pos 100000
+  pub mu : k.voxel ≤ℤ k.mu
+  pub mu_high : k.mu ≤ℤ pos 1000000
+  pub radius : pos 1 ≤ℤ k.radius
+  pub radius_high : k.radius ≤ℤ pos 100000000
+  pub centre : pos 0 ≤ℤ k.centre
+  pub centre_high : k.centre ≤ℤ pos 17000000
+
+-- ---- depths
+
+-- a depth that is from near to far
+abbrev pub valid_depth : CameraFields → (d : ℤ) → Option ℤ
+valid_depth k d = if within k.near k.far d then Some d else None
+
+-- the depth that a raw sample tells, nothing where the sample is not valid
+abbrev pub depth_of : CameraFields → (raw : ℕ) → Option ℤ
+depth_of k raw = if raw == 0 then None else valid_depth k (pos raw *ℤ k.unit)
+
+-- ---- rays and projection
+
+-- one coordinate of the ray of pixel u at depth z
+abbrev pub ray_on : (f c u z : ℤ) → ℤ
+ray_on f c u z = floor_div ((pos 65536 *ℤ u -ℤ c) *ℤ z) f
+
+-- the point at depth z on the ray of pixel (u, v)
+abbrev pub ray : CameraFields → (u v z : ℤ) → Vec3
+ray k u v z = vec (ray_on k.fx k.cx u z) (ray_on k.fy k.cy v z) z
+
+-- the pixel nearest to where a point before the camera projects, on one axis
+abbrev pub pixel_on : (f c x z : ℤ) → ℤ
+pixel_on f c x z = floor_div (f *ℤ x +ℤ c *ℤ z +ℤ pos 32768 *ℤ z) (pos 65536 *ℤ z)
+
+-- whether that pixel is one of the image's
+abbrev pub is_in_image : CameraFields → (u v : ℤ) → Bool
+is_in_image k u v = within (pos 0) (k.width -ℤ pos 1) u && within (pos 0) (k.height -ℤ pos 1) v
+
+-- whether a camera point projects inside the image: it stands before the camera, and its pixel is one of the image's
+abbrev pub is_inside : CameraFields → Vec3 → Bool
+is_inside k p = int_le (pos 1) p.z && is_in_image k (pixel_on k.fx k.cx p.x p.z) (pixel_on k.fy k.cy p.y p.z)
+
+-- the pixel of the image that a camera point projects to, if any
+abbrev pub project : CameraFields → Vec3 → Option (ℕ × ℕ)
+project k p = if is_inside k p then Some (unsigned_abs (pixel_on k.fx k.cx p.x p.z), unsigned_abs (pixel_on k.fy k.cy p.y p.z)) else None
+
+-- ---- the opening test
+
+-- what the image has on the left of its centre, in 1/65536 pixel
+abbrev pub left : (c : ℤ) → ℤ
+left c = c +ℤ pos 32768
+
+-- on its right
+abbrev pub right : (width c : ℤ) → ℤ
+right w c = pos 65536 *ℤ w -ℤ c -ℤ pos 32768
+
+-- the greater one of the two, each by its size
+abbrev pub half : (width c : ℤ) → ℤ
+half w c = int_max (left c) (pos (unsigned_abs (right w c)))
+
+-- the greatest depth that a frame may touch
+abbrev pub deepest : CameraFields → ℤ
+deepest k = k.far +ℤ k.mu
+
+-- how far a point of the image may lie from the axis at depth z
+abbrev pub reach_on : (z f width c : ℤ) → ℤ
+reach_on z f w c = floor_div (z *ℤ half w c) f +ℤ pos 1
+
+-- on the axis x, at the greatest depth
+abbrev pub reach_x : CameraFields → ℤ
+reach_x k = reach_on (deepest k) k.fx k.width k.cx
+
+-- on the axis y
+abbrev pub reach_y : CameraFields → ℤ
+reach_y k = reach_on (deepest k) k.fy k.height k.cy
+
+-- how far the depths that a frame may touch lie from the centre of the sphere
+abbrev pub reach_z : CameraFields → ℤ
+reach_z k = int_max k.centre (pos (unsigned_abs (deepest k -ℤ k.centre)))
+
+-- a margin of less than two blocks, and what rounding may add
+abbrev pub margin : CameraFields → ℤ
+margin k = pos 14 *ℤ k.voxel +ℤ floor_div (reach_x k +ℤ reach_y k +ℤ deepest k) (pos 1024) +ℤ pos 16
+
+-- z times itself
+abbrev pub square : ℤ → ℤ
+square z = z *ℤ z
+
+-- the test of HasReach
+abbrev pub has_reach : CameraFields → Bool
+has_reach k = int_le (reach_x k) (pos 17000000) && int_le (reach_y k) (pos 17000000)
+
+-- the test of FitsSphere
+abbrev pub fits_sphere : CameraFields → Bool
+fits_sphere k = int_le (square (reach_x k +ℤ margin k) +ℤ square (reach_y k +ℤ margin k) +ℤ square (reach_z k +ℤ margin k)) (square k.radius)
+
+-- all that a frame may touch lies within 17 metres of the axis
+pub record HasReach (k : CameraFields) : Type 0 where
+  pub x : reach_x k ≤ℤ pos 17000000
+  pub y : reach_y k ≤ℤ pos 17000000
+
+-- all that a frame may touch lies in the active sphere, with the margin
+pub record FitsSphere (k : CameraFields) : Type 0 where
+  pub fits : (square (reach_x k +ℤ margin k) +ℤ square (reach_y k +ℤ margin k) +ℤ square (reach_z k +ℤ margin k)) ≤ℤ square k.radius
+
+-- a camera that passes all tests
+pub record IsCamera (k : CameraFields) : Type 0 where
+  pub ranges : HasRanges k
+  pub reach : HasReach k
+  pub sphere : FitsSphere k
+
+-- ---- the active sphere
+
+-- whether a camera point lies in the sphere round the point at the depth `centre` on the axis
+abbrev pub is_in_sphere : CameraFields → Vec3 → Bool
+is_in_sphere k c = int_le (square c.x +ℤ square c.y +ℤ square (c.z -ℤ k.centre)) (square k.radius)
+
+-- whether a block is active before the camera at a pose: its centre lies in the sphere
+abbrev pub is_active : CameraFields → Pose → BlockKey → Bool
+is_active k m b = is_in_sphere k (cam m (centre_of k.voxel b))

@@ -1,0 +1,3 @@
+pub mod Cameras
+pub mod Grid
+pub mod Opening

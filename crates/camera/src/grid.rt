@@ -1,0 +1,141 @@
+ghost use Rattle.std.specs.Prelude.{◌≡◌, ◌^◌, ◌<◌, pos, ◌+ℤ◌, ◌*ℤ◌, ◌≤ℤ◌, Some, None, IfSome, if◌then◌else◌};
+ghost use Rattle.fixed_geom.specs.Vectors.{AreWithin, IsWithin};
+ghost use Rattle.camera.specs.Grid.{centre_of, point_of, block, fits_key, as_key, key_at, nearest as nearest_of, nearest_voxel as nearest_voxel_of, nearest_on as nearest_on_of, block_of_voxel as block_of_voxel_of, index_of_voxel as index_of_voxel_of, offset_on as offset_on_of, voxel_coordinates};
+
+use fixed_geom::Vec3;
+use voxel_block::BlockKey;
+
+/// Where the voxel of index `i` of a block stands in the world, in micrometres. A voxel has the size `size`.
+pub fn voxel_point(size: i64, key: BlockKey, i: u16) -> Vec3
+    requires size { IsWithin (pos 100000) size }
+    requires index { i < 512 }
+    ensures value { result ≡ point_of size key i }
+    ensures bound { AreWithin (pos (2 ^ 40)) result }
+{
+    Vec3 {
+        x: coordinate(size, key.x, i % 8),
+        y: coordinate(size, key.y, i / 8 % 8),
+        z: coordinate(size, key.z, i / 64),
+    }
+}
+
+/// The centre of a block, in micrometres.
+pub fn block_centre(size: i64, key: BlockKey) -> Vec3
+    requires { IsWithin (pos 100000) size }
+    ensures value { result ≡ centre_of size key }
+    ensures bound { AreWithin (pos (2 ^ 40)) result }
+{
+    Vec3 {
+        x: coordinate(size, key.x, 4),
+        y: coordinate(size, key.y, 4),
+        z: coordinate(size, key.z, 4),
+    }
+}
+
+/// The block that a point lies in. `None` where a coordinate of the block does not fit 16 bits.
+pub fn block_of(size: i64, p: Vec3) -> Option<BlockKey>
+    requires size { pos 1 ≤ℤ size }
+    requires size_high { size ≤ℤ pos 100000 }
+    requires p { AreWithin (pos (2 ^ 40)) p }
+    ensures { result ≡ key_at size p }
+{
+    let length = 8 * size;
+    key(
+        p.x.div_euclid(length),
+        p.y.div_euclid(length),
+        p.z.div_euclid(length),
+    )
+}
+
+/// The voxel nearest to a point, by its block and its index there. `None` where a coordinate of the block does not fit
+/// 16 bits.
+pub fn nearest(size: i64, p: Vec3) -> Option<(BlockKey, u16)>
+    requires size { pos 1 ≤ℤ size }
+    requires size_high { size ≤ℤ pos 100000 }
+    requires p { AreWithin (pos (2 ^ 40)) p }
+    ensures value { result ≡ nearest_of size p }
+    ensures voxel { IfSome result (λ n. (n.1 < 512) × (voxel_coordinates n.0 n.1 ≡ nearest_voxel_of size p)) }
+{
+    let voxel = nearest_voxel(size, p);
+    let block = block_of_voxel(voxel)?;
+    Some((block, index_of_voxel(voxel)))
+}
+
+/// The block with these coordinates. `None` where one of them does not fit 16 bits.
+fn key(x: i64, y: i64, z: i64) -> Option<BlockKey>
+    ensures { result ≡ as_key (block x y z) }
+{
+    Some(BlockKey {
+        x: key_on(x)?,
+        y: key_on(y)?,
+        z: key_on(z)?,
+    })
+}
+
+/// A coordinate of a block as a key has it. `None` where it does not fit 16 bits.
+fn key_on(coordinate: i64) -> Option<i16>
+    ensures { result ≡ (if fits_key coordinate then Some coordinate else None) }
+{
+    i16::try_from(coordinate).ok()
+}
+
+/// The coordinates, in voxels, of the voxel nearest to a point.
+fn nearest_voxel(size: i64, p: Vec3) -> Vec3
+    requires size { pos 1 ≤ℤ size }
+    requires size_high { size ≤ℤ pos 100000 }
+    requires p { AreWithin (pos (2 ^ 40)) p }
+    ensures { result ≡ nearest_voxel_of size p }
+{
+    Vec3 {
+        x: nearest_on(size, p.x),
+        y: nearest_on(size, p.y),
+        z: nearest_on(size, p.z),
+    }
+}
+
+/// The voxel coordinate nearest to a coordinate of a point, the greater one of two.
+fn nearest_on(size: i64, p: i64) -> i64
+    requires size { pos 1 ≤ℤ size }
+    requires size_high { size ≤ℤ pos 100000 }
+    requires p { IsWithin (pos (2 ^ 40)) p }
+    ensures { result ≡ nearest_on_of size p }
+{
+    (2 * p + size).div_euclid(2 * size)
+}
+
+/// The block that has the voxel of these coordinates. `None` where a coordinate of the block does not fit 16 bits.
+fn block_of_voxel(voxel: Vec3) -> Option<BlockKey>
+    ensures { result ≡ as_key (block_of_voxel_of voxel) }
+{
+    key(
+        voxel.x.div_euclid(8),
+        voxel.y.div_euclid(8),
+        voxel.z.div_euclid(8),
+    )
+}
+
+/// The index of that voxel in its block: x runs fastest, then y, then z.
+fn index_of_voxel(voxel: Vec3) -> u16
+    ensures value { result ≡ index_of_voxel_of voxel }
+    ensures bound { result < 512 }
+{
+    offset_on(voxel.x) + 8 * offset_on(voxel.y) + 64 * offset_on(voxel.z)
+}
+
+/// How far a voxel coordinate lies from where its block begins.
+fn offset_on(coordinate: i64) -> u16
+    ensures value { result ≡ offset_on_of coordinate }
+    ensures bound { result < 8 }
+{
+    coordinate.rem_euclid(8) as u16
+}
+
+/// A coordinate of a voxel, by the block's and its place in the block.
+fn coordinate(size: i64, block: i16, place: u16) -> i64
+    requires size { IsWithin (pos 100000) size }
+    requires place { place < 8 }
+    ensures value { result ≡ (pos 8 *ℤ block +ℤ pos place) *ℤ size }
+    ensures bound { IsWithin (pos (2 ^ 40)) result }
+{
+    (8 * i64::from(block) + i64::from(place)) * size
+}

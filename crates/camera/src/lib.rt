@@ -1,0 +1,15 @@
+//! A camera: its rays and projection, the depths that it takes, the opening test, the active sphere and the grid.
+#![tactic(auto)]
+
+mod camera;
+mod grid;
+mod opening;
+mod projection;
+mod ray;
+mod sphere;
+
+pub use camera::{BadCamera, Camera, CameraFields};
+pub use opening::first_failing;
+
+#[cfg(test)]
+mod tests;

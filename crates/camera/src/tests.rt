@@ -1,0 +1,173 @@
+ghost use Rattle.std.specs.Prelude.{◌^◌, pos};
+ghost use Rattle.fixed_geom.specs.Vectors.{AreWithin, IsWithin};
+
+use super::*;
+use fixed_geom::{Pose, PoseRows, Vec3};
+use std::test::Fail;
+use voxel_block::BlockKey;
+
+const BASE: CameraFields = CameraFields {
+    width: 1,
+    height: 1,
+    fx: 65536,
+    fy: 65536,
+    cx: 0,
+    cy: 0,
+    unit: 1000,
+    near: 500000,
+    far: 2000000,
+    voxel: 10000,
+    mu: 40000,
+    radius: 2100000,
+    centre: 1020000,
+};
+
+fn point(x: i64, y: i64, z: i64) -> Vec3
+    requires x { IsWithin (pos (2 ^ 40)) x }
+    requires y { IsWithin (pos (2 ^ 40)) y }
+    requires z { IsWithin (pos (2 ^ 40)) z }
+    ensures { AreWithin (pos (2 ^ 40)) result }
+{
+    Vec3 { x, y, z }
+}
+
+fn key(x: i16, y: i16, z: i16) -> BlockKey {
+    BlockKey { x, y, z }
+}
+
+#[test]
+fn fields_are_judged(rt: HostRuntime) {
+    let cases = [
+        (BASE, None),
+        (
+            CameraFields { voxel: 999, ..BASE },
+            Some(BadCamera::Field(11)),
+        ),
+        (CameraFields { fx: 1, ..BASE }, Some(BadCamera::Reach)),
+        (
+            CameraFields {
+                radius: 2016108,
+                ..BASE
+            },
+            Some(BadCamera::Sphere),
+        ),
+        (
+            CameraFields {
+                radius: 2016109,
+                ..BASE
+            },
+            None,
+        ),
+        (CameraFields { width: 0, ..BASE }, Some(BadCamera::Field(2))),
+        (
+            CameraFields {
+                width: 2049,
+                ..BASE
+            },
+            Some(BadCamera::Field(2)),
+        ),
+        (
+            CameraFields {
+                width: i64::MIN,
+                ..BASE
+            },
+            Some(BadCamera::Field(2)),
+        ),
+        (
+            CameraFields { cx: 65537, ..BASE },
+            Some(BadCamera::Field(6)),
+        ),
+        (
+            CameraFields {
+                cx: i64::MIN,
+                ..BASE
+            },
+            Some(BadCamera::Field(6)),
+        ),
+        (CameraFields { near: 0, ..BASE }, Some(BadCamera::Field(9))),
+        (
+            CameraFields {
+                far: 499999,
+                ..BASE
+            },
+            Some(BadCamera::Field(10)),
+        ),
+        (
+            CameraFields { mu: 9999, ..BASE },
+            Some(BadCamera::Field(12)),
+        ),
+        (
+            CameraFields { radius: 0, ..BASE },
+            Some(BadCamera::Field(13)),
+        ),
+        (
+            CameraFields {
+                centre: 17000001,
+                ..BASE
+            },
+            Some(BadCamera::Field(14)),
+        ),
+        (
+            CameraFields {
+                fx: 1,
+                voxel: 999,
+                ..BASE
+            },
+            Some(BadCamera::Field(11)),
+        ),
+    ];
+    for (fields, refused) in cases {
+        assert_eq!(rt; Camera::make(fields).err(), refused, "{fields:?}");
+    }
+}
+
+#[test]
+fn a_camera_takes_depths_and_pixels(rt: HostRuntime) -> Result<(), BadCamera> {
+    let camera = Camera::make(BASE)?;
+    assert_eq!(rt; camera.fields(), BASE);
+    for (raw, depth) in [
+        (0, None),
+        (499, None),
+        (500, Some(500000)),
+        (2000, Some(2000000)),
+        (2001, None),
+    ] {
+        assert_eq!(rt; camera.depth(raw), depth, "{raw}");
+    }
+    assert_eq!(rt; camera.project(point(0, 0, 1000000)), Some((0, 0)));
+    assert_eq!(rt; camera.project(point(0, 0, 0)), None);
+    assert_eq!(rt; camera.ray(0, 0, 1000000), point(0, 0, 1000000));
+    Ok(())
+}
+
+#[test]
+fn points_have_blocks_and_voxels(rt: HostRuntime) -> Result<(), BadCamera> {
+    let camera = Camera::make(BASE)?;
+    let (low, high) = (key(-1, 0, 0), key(0, 0, 12));
+    assert_eq!(rt; camera.block_of(point(0, 0, 1000000)), Some(high));
+    assert_eq!(rt; camera.block_of(point(30000000000, 0, 0)), None);
+    assert_eq!(rt;
+        camera.nearest(point(4999, 5000, 999999)),
+        Some((high, 264))
+    );
+    assert_eq!(rt; camera.nearest(point(-5001, -5000, 0)), Some((low, 7)));
+    assert_eq!(rt; camera.nearest(point(30000000000, 0, 0)), None);
+    assert_eq!(rt; camera.voxel_point(high, 264), point(0, 10000, 1000000));
+    assert_eq!(rt; camera.voxel_point(low, 7), point(-10000, 0, 0));
+    assert_eq!(rt; camera.block_centre(low), point(-40000, 40000, 40000));
+    Ok(())
+}
+
+#[test]
+fn blocks_in_the_sphere_are_active(rt: HostRuntime) -> Result<(), Fail> {
+    let camera = Camera::make(BASE).map_err(|_| Fail::from("camera"))?;
+    let one = 1 << 30;
+    let rows = PoseRows {
+        r: [one, 0, 0, 0, one, 0, 0, 0, one],
+        t: point(0, 0, 0),
+    };
+    let pose = Pose::accept(&rows).map_err(|_| Fail::from("pose"))?;
+    assert!(rt; camera.active(&pose, key(0, 0, 12)));
+    assert!(rt; !camera.active(&pose, key(26, 0, 12)));
+    Ok(())
+}

@@ -1,5 +1,0 @@
-use Rattle.fusion_cli.proofs.OpeningLemmas.{half_high}
-use Rattle.fusion_cli.proofs.config.half.Goals as goal
-
-pub returns-clause-high : goal.returns-clause-high
-returns-clause-high c = half_high c.left.result c.right.result c.abs.result c.max.result c.left.ensures.low c.left.ensures.high c.right.ensures.low c.right.ensures.high c.abs.ensures.value c.max.ensures.value

@@ -1,5 +1,0 @@
-use Rattle.fusion_cli.proofs.ProjectionLemmas.{across_read}
-use Rattle.fusion_cli.proofs.projection.is_across.Goals as goal
-
-pub returns : goal.returns
-returns c = across_read _ c.args.scaled c.args.size c.args.z c.ranges.scaled c.requires.size c.requires.z c.requires.front c.is_between.ensures

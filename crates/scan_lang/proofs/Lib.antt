@@ -1,0 +1,6 @@
+mod ConfigLemmas
+mod LineLemmas
+mod ReaderLemmas
+pub mod RecordLemmas
+mod WordLemmas
+mod ReplyLemmas

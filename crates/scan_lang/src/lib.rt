@@ -1,0 +1,20 @@
+//! The language of scans: the configuration, the records, and the replies to them.
+#![tactic(auto)]
+
+mod config;
+mod entry;
+mod error;
+mod head;
+mod line;
+mod reader;
+mod reply;
+mod words;
+
+pub use config::{BadConfig, Config, ConfigError, read_config};
+pub use entry::Entry;
+pub use error::{BadScan, BadWhat, ScanError};
+pub use reader::ScanReader;
+pub use reply::{FrameDone, KnownVoxel, Reply, Totals, VoxelList, reply_bytes};
+
+#[cfg(test)]
+mod tests;

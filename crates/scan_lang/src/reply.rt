@@ -1,0 +1,194 @@
+ghost use Rattle.std.specs.Prelude.{◌≡◌, ◌++◌, ◌∷◌, [], IfOk, OnOk};
+ghost use Rattle.std.specs.Fmt.{signed_decimal};
+ghost use Rattle.scan_lang.specs.Replies.{text_of, frame_text, heap_text, counts_text, sums_text, totals_text, voxels_text, voxels_head as voxels_head_of, voxel_line};
+
+use itoa::Buffer;
+use std::alloc::{AllocError, Global};
+use std::marker::Model;
+use voxel_block::NoMemory;
+
+/// What is told of an accepted frame.
+#[derive(Clone, Copy, Debug, PartialEq, Eq)]
+pub struct FrameDone {
+    /// The number of accepted frames, this one among them, held at the greatest number.
+    pub frame: u64,
+    /// The number of blocks of the map.
+    pub blocks: u64,
+    /// How many of them are active for the frame.
+    pub resident: u32,
+}
+
+/// A voxel that was seen at least once: its coordinates in the whole grid, its distance and its weight.
+#[derive(Clone, Copy, Debug, PartialEq, Eq)]
+pub struct KnownVoxel {
+    pub x: i32,
+    pub y: i32,
+    pub z: i32,
+    pub f: i16,
+    pub w: u8,
+}
+
+/// Sums over a map, each held at the end of its type where it would pass it.
+#[derive(Clone, Copy, Debug, PartialEq, Eq)]
+pub struct Totals {
+    /// The number of blocks.
+    pub blocks: u64,
+    /// The number of voxels that were seen at least once.
+    pub known: u64,
+    /// The sum of their weights.
+    pub weight: u64,
+    /// The sum of their distances.
+    pub distance: i64,
+}
+
+/// A list of voxels.
+#[derive(Drop)]
+pub struct VoxelList {
+    items: Vec<KnownVoxel>,
+}
+
+impl Model for VoxelList {
+    ghost use Rattle.std.specs.Prelude.{List};
+    ghost use Rattle.scan_lang.specs.declared.reply.KnownVoxel.{KnownVoxel as Known};
+
+    ghost Value = { List Known };
+
+    ghost view = { λ l. l.items.items };
+}
+
+impl VoxelList {
+    /// The list of the vector's voxels.
+    pub fn make(items: Vec<KnownVoxel>) -> VoxelList
+        ensures { result ≡ items.items }
+    {
+        VoxelList { items }
+    }
+
+    /// The voxels.
+    pub fn items(&self) -> &[KnownVoxel]
+        ensures { result.now ≡ self.now }
+    {
+        self.items.as_slice()
+    }
+}
+
+/// A reply to a record.
+#[derive(Drop)]
+pub enum Reply {
+    /// A frame was accepted.
+    Frame(FrameDone),
+    /// A frame was refused: its sides are not those of the configuration.
+    Size,
+    /// A frame was refused: its pose passes the bounds.
+    PoseRange,
+    /// A frame was refused: its pose is no rotation.
+    PoseRotation,
+    /// A frame was refused: more than so many blocks would be active.
+    HeapSpent(u32),
+    /// The number of blocks, and all known voxels.
+    Voxels(u64, VoxelList),
+    /// Totals over the map.
+    Totals(Totals),
+    /// The scan ended.
+    End,
+}
+
+/// The bytes of a reply.
+pub fn reply_bytes(alloc: Global, reply: &Reply) -> Result<Vec<u8>, NoMemory>
+    ensures { IfOk result (λ v. v.items ≡ text_of reply.now) }
+{
+    match written(alloc, reply) {
+        Ok(bytes) => Ok(bytes),
+        Err(_) => Err(NoMemory),
+    }
+}
+
+fn written(alloc: Global, reply: &Reply) -> Result<Vec<u8>, AllocError>
+    ensures { IfOk result (λ v. v.items ≡ text_of reply.now) }
+{
+    match reply {
+        Reply::Frame(done) => frame_bytes(alloc, done),
+        Reply::Size => b"frame refused size\n".to_vec(alloc),
+        Reply::PoseRange => b"frame refused pose range\n".to_vec(alloc),
+        Reply::PoseRotation => b"frame refused pose rotation\n".to_vec(alloc),
+        Reply::HeapSpent(limit) => heap_bytes(alloc, *limit),
+        Reply::Voxels(blocks, known) => voxels_bytes(alloc, *blocks, known.items()),
+        Reply::Totals(totals) => totals_bytes(alloc, totals),
+        Reply::End => b"end\n".to_vec(alloc),
+    }
+}
+
+fn frame_bytes(alloc: Global, done: &FrameDone) -> Result<Vec<u8>, AllocError>
+    ensures { IfOk result (λ v. v.items ≡ frame_text done.now) }
+{
+    let (frame, blocks, resident) = (done.frame, done.blocks, done.resident);
+    let text = format!(in alloc; "frame {frame} blocks {blocks} resident {resident}\n")?;
+    Ok(text.into_bytes())
+}
+
+fn heap_bytes(alloc: Global, limit: u32) -> Result<Vec<u8>, AllocError>
+    ensures { IfOk result (λ v. v.items ≡ heap_text limit) }
+{
+    let text = format!(in alloc; "frame refused heap {limit}\n")?;
+    Ok(text.into_bytes())
+}
+
+fn totals_bytes(alloc: Global, totals: &Totals) -> Result<Vec<u8>, AllocError>
+    ensures { IfOk result (λ v. v.items ≡ totals_text totals.now) }
+{
+    let mut bytes = b"sum ".to_vec(alloc)?;
+    bytes.extend_from_slice(&counts_bytes(alloc, totals.blocks, totals.known)?)?;
+    bytes.extend_from_slice(&sums_bytes(alloc, totals.weight, totals.distance)?)?;
+    Ok(bytes)
+}
+
+fn counts_bytes(alloc: Global, blocks: u64, known: u64) -> Result<Vec<u8>, AllocError>
+    ensures { IfOk result (λ v. v.items ≡ counts_text blocks known) }
+{
+    let text = format!(in alloc; "blocks {blocks} known {known} ")?;
+    Ok(text.into_bytes())
+}
+
+fn sums_bytes(alloc: Global, weight: u64, distance: i64) -> Result<Vec<u8>, AllocError>
+    ensures { IfOk result (λ v. v.items ≡ sums_text weight distance) }
+{
+    let text = format!(in alloc; "weight {weight} distance {distance}\n")?;
+    Ok(text.into_bytes())
+}
+
+fn voxels_bytes(alloc: Global, blocks: u64, known: &[KnownVoxel]) -> Result<Vec<u8>, AllocError>
+    ensures { IfOk result (λ v. v.items ≡ voxels_text blocks known.now) }
+{
+    let mut bytes = voxels_head(alloc, blocks, known.len())?;
+    for voxel in known {
+        write_voxel(&mut bytes, voxel)?;
+    }
+    Ok(bytes)
+}
+
+fn voxels_head(alloc: Global, blocks: u64, known: usize) -> Result<Vec<u8>, AllocError>
+    ensures { IfOk result (λ v. v.items ≡ voxels_head_of blocks known) }
+{
+    let text = format!(in alloc; "voxels {blocks} {known}\n")?;
+    Ok(text.into_bytes())
+}
+
+// Writes the line of a voxel.
+fn write_voxel(bytes: &mut Vec<u8>, voxel: &KnownVoxel) -> Result<(), AllocError>
+    ensures { OnOk result (bytes.new.items ≡ bytes.old.items ++ voxel_line voxel.now) }
+{
+    write_number(bytes, i64::from(voxel.x), b' ')?;
+    write_number(bytes, i64::from(voxel.y), b' ')?;
+    write_number(bytes, i64::from(voxel.z), b' ')?;
+    write_number(bytes, i64::from(voxel.f), b' ')?;
+    write_number(bytes, i64::from(voxel.w), b'\n')
+}
+
+// Writes a number, and the byte behind it.
+fn write_number(bytes: &mut Vec<u8>, number: i64, end: u8) -> Result<(), AllocError>
+    ensures { OnOk result (bytes.new.items ≡ bytes.old.items ++ signed_decimal number ++ end ∷ []) }
+{
+    bytes.extend_from_slice(Buffer::new().format(number).as_bytes())?;
+    bytes.push(end)?;
+    Ok(())
+}

@@ -1,0 +1,214 @@
+ghost use Rattle.std.specs.Prelude.{◌≡◌, ◌<◌, ◌≤◌, ◌==◌, not, length, position, IfSome};
+ghost use Rattle.std.specs.List.{position_or_len};
+ghost use Rattle.scan_lang.specs.Places.{behind, fault};
+ghost use Rattle.scan_lang.specs.Words.{is_blank as blank_test, words_of, scale_of, number_at, numbers_from, rows_in as rows_of, frame_head, alone as alone_of, head_with, head_of};
+ghost use Rattle.scan_lang.specs.Spans.{bytes_of, words_behind, words_with};
+ghost use Rattle.scan_lang.specs.declared.error.BadWhat.TheVariants.{Line, Number};
+
+use crate::error::{BadScan, BadWhat};
+use crate::head::Head;
+use fixed_geom::{PoseRows, Vec3, read_decimal};
+
+const METRE: i64 = 1_000_000;
+
+const ONE: i64 = 1 << 30;
+
+const FRAME_NUMBERS: usize = 12;
+
+/// The bytes of a line from `start` on and before `end`.
+#[derive(Clone, Copy, Debug, PartialEq, Eq)]
+pub struct Span {
+    pub start: usize,
+    pub end: usize,
+}
+
+impl Span {
+    fn is_empty(&self) -> bool
+        ensures { result ≡ (self.now.start == self.now.end) }
+    {
+        self.start == self.end
+    }
+}
+
+/// What the line at a place begins, nothing where it has no words.
+#[tactic(auto, unfolding(crate::specs::Words::head_of, crate::specs::Words::words_of))]
+pub fn read_head(place: u64, line: &[u8]) -> Result<Option<Head>, BadScan>
+    ensures { result ≡ head_of place line.now }
+{
+    let word = next_word(line, 0);
+    if word.is_empty() {
+        return Ok(None);
+    }
+    Ok(Some(read_record(place, line, word)?))
+}
+
+// The record of a line by its first word.
+fn read_record(place: u64, line: &[u8], word: Span) -> Result<Head, BadScan>
+    requires order { word.start ≤ word.end }
+    requires bound { word.end ≤ length line.now }
+    ensures { result ≡ head_with place (bytes_of line.now word) (words_behind word.end line.now) }
+{
+    let bytes = &line[word.start..word.end];
+    if bytes == b"frame".as_slice() {
+        return read_frame(place, line, word.end);
+    }
+    if bytes == b"voxels".as_slice() {
+        return alone(place, Head::Voxels, line, word.end);
+    }
+    if bytes == b"sum".as_slice() {
+        return alone(place, Head::Sum, line, word.end);
+    }
+    if bytes == b"end".as_slice() {
+        return alone(place, Head::End, line, word.end);
+    }
+    Err(line_fault(place))
+}
+
+// A record of one word, which ends at `from`.
+fn alone(place: u64, head: Head, line: &[u8], from: usize) -> Result<Head, BadScan>
+    requires { from ≤ length line.now }
+    ensures { result ≡ alone_of place head (words_behind from line.now) }
+{
+    if next_word(line, from).is_empty() {
+        Ok(head)
+    } else {
+        Err(line_fault(place))
+    }
+}
+
+// A frame, whose word ends at `from`: twelve numbers follow.
+fn read_frame(place: u64, line: &[u8], from: usize) -> Result<Head, BadScan>
+    requires { from ≤ length line.now }
+    ensures { result ≡ frame_head place (words_behind from line.now) }
+{
+    if !are_twelve(line, from) {
+        return Err(line_fault(place));
+    }
+    let numbers = read_numbers(place, line, from)?;
+    Ok(Head::Frame(rows_in(&numbers)))
+}
+
+// The first three rows of the camera-to-world matrix, of its twelve numbers row by row.
+fn rows_in(n: &[i64; FRAME_NUMBERS]) -> PoseRows
+    ensures { result ≡ rows_of n.now }
+{
+    PoseRows {
+        r: [n[0], n[1], n[2], n[4], n[5], n[6], n[8], n[9], n[10]],
+        t: Vec3 {
+            x: n[3],
+            y: n[7],
+            z: n[11],
+        },
+    }
+}
+
+// Whether there are just twelve words from a place on.
+fn are_twelve(line: &[u8], from: usize) -> bool
+    requires { from ≤ length line.now }
+    ensures { result ≡ (length (words_behind from line.now) == 12) }
+{
+    let mut behind = from;
+    for _ in 0..FRAME_NUMBERS {
+        let word = next_word(line, behind);
+        if word.is_empty() {
+            return false;
+        }
+        behind = word.end;
+    }
+    next_word(line, behind).is_empty()
+}
+
+// The numbers that the twelve words from a place on write, in a line that stands at the place `place`.
+fn read_numbers(place: u64, line: &[u8], from: usize) -> Result<[i64; FRAME_NUMBERS], BadScan>
+    requires bound { from ≤ length line.now }
+    requires twelve { length (words_behind from line.now) ≡ 12 }
+    ensures { result ≡ numbers_from place 0 (words_behind from line.now) }
+{
+    let mut behind = from;
+    let mut numbers = [0; FRAME_NUMBERS];
+    for index in 0..FRAME_NUMBERS {
+        let word = next_word(line, behind);
+        numbers[index] = read_number(place, index, line, word)?;
+        behind = word.end;
+    }
+    Ok(numbers)
+}
+
+fn read_number(place: u64, index: usize, line: &[u8], word: Span) -> Result<i64, BadScan>
+    requires order { word.start ≤ word.end }
+    requires bound { word.end ≤ length line.now }
+    ensures { result ≡ number_at place index (record { at = word.start; bytes = bytes_of line.now word }) }
+{
+    match read_decimal(&line[word.start..word.end], scale(index)) {
+        Ok(number) => Ok(number),
+        Err(_) => Err(BadScan {
+            at: place.saturating_add(word.start as u64),
+            what: BadWhat::Number,
+        }),
+    }
+}
+
+// A rotation's entries are kept in units of 2^-30, a translation in micrometres.
+fn scale(index: usize) -> i64
+    ensures { result ≡ scale_of index }
+{
+    if index % 4 == 3 { METRE } else { ONE }
+}
+
+// The first word from a place on; it is empty at the end of the line, where there is none.
+fn next_word(line: &[u8], from: usize) -> Span
+    requires { from ≤ length line.now }
+    ensures words { words_behind from line.now ≡ words_with line.now result }
+    ensures order { result.start ≤ result.end }
+    ensures bound { result.end ≤ length line.now }
+{
+    let start = from + blanks(&line[from..]);
+    let end = start + word_len(&line[start..]);
+    Span { start, end }
+}
+
+// How many bytes stand before the first one that is no blank.
+fn blanks(text: &[u8]) -> usize
+    ensures value { result ≡ position_or_len (λ b. not (blank_test b)) text.now }
+    ensures bound { result ≤ length text.now }
+{
+    first_of_word(text).unwrap_or(text.len())
+}
+
+fn first_of_word(text: &[u8]) -> Option<usize>
+    ensures place { result ≡ position (λ b. not (blank_test b)) text.now }
+    ensures bound { IfSome result (λ i. i < length text.now) }
+{
+    text.iter().position(|b| !is_blank(*b))
+}
+
+// How many bytes stand before the first blank.
+fn word_len(text: &[u8]) -> usize
+    ensures value { result ≡ position_or_len blank_test text.now }
+    ensures bound { result ≤ length text.now }
+{
+    first_blank(text).unwrap_or(text.len())
+}
+
+fn first_blank(text: &[u8]) -> Option<usize>
+    ensures place { result ≡ position blank_test text.now }
+    ensures bound { IfSome result (λ i. i < length text.now) }
+{
+    text.iter().position(|b| is_blank(*b))
+}
+
+// Space, TAB or CR.
+fn is_blank(byte: u8) -> bool
+    ensures { result ≡ blank_test byte }
+{
+    byte == b' ' || byte == b'\t' || byte == b'\r'
+}
+
+fn line_fault(place: u64) -> BadScan
+    ensures { result ≡ fault Line place }
+{
+    BadScan {
+        at: place,
+        what: BadWhat::Line,
+    }
+}

@@ -1,0 +1,12 @@
+mod BandLemmas
+mod BandSet
+mod FuseLemmas
+mod KeepLemmas
+mod KnownLemmas
+mod Machine
+mod MapLemmas
+mod Results
+mod SampleLemmas
+mod SessionLemmas
+mod SumLemmas
+mod UpdateLemmas

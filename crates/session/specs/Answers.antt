@@ -1,0 +1,46 @@
+-- What a session holds and answers.
+use Rattle.std.specs.Prelude.{◌≡◌, ℕ, ◌<◌, ◌≤◌, if◌then◌else◌, Result, Ok, Err, ⊤}
+use Rattle.fixed_geom.specs.Poses.{Pose}
+use Rattle.fixed_geom.specs.PoseTest.{accepted, pose_of}
+use Rattle.fixed_geom.specs.declared.pose.PoseRows.{PoseRows}
+use Rattle.fixed_geom.specs.declared.pose.BadPose.{BadPose}
+use Rattle.depth_frame.specs.Pictures.{Picture}
+use Rattle.scan_lang.specs.Config.{Config}
+use Rattle.scan_lang.specs.declared.reply.FrameDone.{FrameDone}
+use Rattle.session.specs.declared.frame.Frame.{Frame}
+use Rattle.session.specs.declared.error.FrameError.{FrameError}
+use Rattle.session.specs.declared.error.FrameError.TheVariants as errors
+use Rattle.session.specs.Frames.{frame_of}
+use Rattle.session.specs.Fold.{State, size, bad_pose, heap, has_size, judged, fused, frame_done}
+
+-- a session: what its map is read and fused by, and the state
+pub record Held : Type 0 where
+  pub config : Config
+  pub state : State
+
+-- what is answered to a frame is what is judged of it, unless memory runs out
+abbrev pub AnswersFrame : Config → State → PoseRows → Picture → Result FrameDone FrameError → Type 0
+AnswersFrame c s rows depths (Ok done) = (f : Frame) × (judged c s rows depths ≡ Ok f) × (done ≡ frame_done f (fused s f))
+AnswersFrame c s rows depths (Err (errors.Size width height)) = (judged c s rows depths ≡ Err size) × (width ≡ depths.width) × (height ≡ depths.height)
+AnswersFrame c s rows depths (Err (errors.BadPose why)) = judged c s rows depths ≡ Err (bad_pose why)
+AnswersFrame c s rows depths (Err (errors.HeapSpent limit)) = (judged c s rows depths ≡ Err heap) × (limit ≡ c.heap_blocks)
+AnswersFrame c s rows depths (Err errors.NoMemory) = ⊤
+
+-- ---- the two steps of it, of which only its parts speak
+
+-- a pose and a depth map make a frame
+abbrev pub posed : Config → Picture → Result Pose BadPose → Result Frame FrameError
+posed c depths (Err why) = Err (errors.BadPose why)
+posed c depths (Ok pose) = Ok (frame_of c pose depths)
+
+-- the frame of rows and a depth map, before its room is judged
+abbrev pub offered : Config → PoseRows → Picture → Result Frame FrameError
+offered c rows depths = if has_size c depths then posed c depths (accepted (pose_of rows)) else Err (errors.Size depths.width depths.height)
+
+-- what is answered where n blocks would be active: n itself, if it is not above the limit
+abbrev pub AnswersRoom : (limit n : ℕ) → Result ℕ FrameError → Type 0
+AnswersRoom limit n (Ok count) = (n ≤ limit) × (count ≡ n)
+AnswersRoom limit n (Err (errors.HeapSpent top)) = (limit < n) × (top ≡ limit)
+AnswersRoom limit n (Err errors.NoMemory) = ⊤
+AnswersRoom limit n (Err (errors.Size width height)) = ⊥
+AnswersRoom limit n (Err (errors.BadPose why)) = ⊥

@@ -1,0 +1,10 @@
+pub mod Answers
+pub mod Bands
+pub mod Codes
+pub mod Fold
+pub mod Frames
+pub mod Laws
+pub mod Maps
+pub mod Output
+pub mod Sums
+pub mod Updates

@@ -1,0 +1,22 @@
+-- Sums over known voxels.
+use Rattle.std.specs.Prelude.{◌+◌, ◌*◌, ◌≤◌, pos, ◌+ℤ◌, unsigned_abs, Option, None, Some}
+use Rattle.scan_lang.specs.declared.reply.KnownVoxel.{KnownVoxel}
+use Rattle.session.specs.declared.totals.Sums.{Sums}
+
+-- the sums over no voxel
+abbrev pub nothing : Sums
+nothing = record { known = 0; weight = 0; distance = pos 0 }
+
+-- the sums with one voxel more
+abbrev pub added : Sums → KnownVoxel → Sums
+added s v = record { known = s.known + 1; weight = s.weight + v.w; distance = s.distance +ℤ v.f }
+
+-- the same, if there is a voxel
+abbrev pub added_if : Sums → Option KnownVoxel → Sums
+added_if s None = s
+added_if s (Some v) = added s v
+
+-- the sums have the sizes that the number of voxels allows
+pub record IsSum (s : Sums) : Type 0 where
+  pub weight : s.weight ≤ 255 * s.known
+  pub distance : unsigned_abs s.distance ≤ 32768 * s.known

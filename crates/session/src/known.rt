@@ -1,0 +1,68 @@
+ghost use Rattle.std.specs.Prelude.{◌≡◌, ◌<◌, ◌++◌, pos, ◌+ℤ◌, ◌*ℤ◌, IfOk, OnOk, option_to_list};
+ghost use Rattle.session.specs.Fold.{known_at as known_at_of, known_in, known_voxels as known_voxels_of};
+
+use crate::map::BlockMap;
+use scan_lang::KnownVoxel;
+use std::alloc::{AllocError, Global};
+use voxel_block::{Block, BlockKey, Voxel};
+
+/// All known voxels of a map, in the order of keys and indices.
+pub fn known_voxels(alloc: Global, map: &BlockMap) -> Result<Vec<KnownVoxel>, AllocError>
+    ensures { IfOk result (λ v. v.items ≡ known_voxels_of map.now) }
+{
+    let mut known = Vec::new(alloc);
+    for (key, block) in map.iter() {
+        push_block(&mut known, *key, block)?;
+    }
+    Ok(known)
+}
+
+/// Puts the known voxels of a block behind those of the list.
+fn push_block(known: &mut Vec<KnownVoxel>, key: BlockKey, block: &Block) -> Result<(), AllocError>
+    ensures { OnOk result (known.new.items ≡ known.old.items ++ known_in key block.now) }
+{
+    for i in 0..512_u16 {
+        push_voxel(known, known_at(key, i, block.get(i)))?;
+    }
+    Ok(())
+}
+
+/// Puts a voxel behind those of the list, if there is one.
+fn push_voxel(known: &mut Vec<KnownVoxel>, voxel: Option<KnownVoxel>) -> Result<(), AllocError>
+    ensures { OnOk result (known.new.items ≡ known.old.items ++ option_to_list voxel) }
+{
+    match voxel {
+        Some(voxel) => {
+            known.push(voxel)?;
+            Ok(())
+        }
+        None => Ok(()),
+    }
+}
+
+/// The voxel of index `i` of a block with its coordinates in the whole grid, if it was seen at least once.
+pub fn known_at(key: BlockKey, i: u16, voxel: Voxel) -> Option<KnownVoxel>
+    requires { i < 512 }
+    ensures { result ≡ known_at_of key i voxel }
+{
+    if voxel.w == 0 {
+        return None;
+    }
+    Some(KnownVoxel {
+        x: coordinate(key.x, i % 8),
+        y: coordinate(key.y, i / 8 % 8),
+        z: coordinate(key.z, i / 64),
+        f: voxel.f,
+        w: voxel.w,
+    })
+}
+
+/// The coordinate of a voxel on one axis.
+fn coordinate(block: i16, offset: u16) -> i32
+    ensures { result ≡ pos 8 *ℤ block +ℤ pos offset }
+{
+    8 * i32::from(block) + i32::from(offset)
+}
+
+#[cfg(test)]
+mod tests;

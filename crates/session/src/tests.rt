@@ -1,0 +1,130 @@
+use super::*;
+use depth_frame::DepthFrame;
+use fixed_geom::{BadPose, PoseRows, Vec3};
+use scan_lang::{FrameDone, Totals, read_config};
+use std::alloc::Global;
+
+const ONE: i64 = 1 << 30;
+
+const AHEAD: [i64; 9] = [ONE, 0, 0, 0, ONE, 0, 0, 0, ONE];
+
+// The second axis is turned round, and so is no rotation.
+const MIRRORED: [i64; 9] = [ONE, 0, 0, 0, -ONE, 0, 0, 0, ONE];
+
+// One pixel that looks along the axis, voxels of 1 cm and a truncation distance of 4 cm.
+fn session(alloc: Global, heap_blocks: u32) -> Option<Session> {
+    let line = format!(in alloc;
+        "{{\"version\":1,\"width\":1,\"height\":1,\"fx\":65536,\"fy\":65536,\"cx\":0,\"cy\":0,\"unit\":1000,\"near\":500000,\"far\":2000000,\"voxel\":10000,\"mu\":40000,\"radius\":2100000,\"centre\":1020000,\"max_weight\":255,\"heap_blocks\":{heap_blocks},\"buckets\":16,\"empty_f\":30000}}"
+    ).ok()?;
+    let config = read_config(alloc, line.as_bytes()).ok()?;
+    Session::start(alloc, config).ok()
+}
+
+// What is answered to a row of pixels that all show one sample, seen from `x` on the first axis.
+fn fuse(
+    alloc: Global,
+    session: &mut Session,
+    (r, x, width, sample): ([i64; 9], i64, u32, u16),
+) -> Option<Result<FrameDone, FrameError>> {
+    let raw = vec![in alloc; sample; width as usize].ok()?;
+    let t = Vec3 { x, y: 0, z: 0 };
+    let depths = DepthFrame::make(width, 1, raw);
+    Some(session.frame(alloc, &PoseRows { r, t }, depths))
+}
+
+fn done(frame: u64, blocks: u64, resident: u32) -> Result<FrameDone, FrameError> {
+    Ok(FrameDone {
+        frame,
+        blocks,
+        resident,
+    })
+}
+
+// A wall one metre away, then another frame, and the totals behind both.
+#[test]
+fn frames_are_fused_or_refused(rt: HostRuntime) {
+    let alloc = rt.alloc();
+    let wall = (AHEAD, 0, 1, 1000);
+    let fused = done(1, 2, 2);
+    let once = (2, 576, 576, -192);
+    for (heap_blocks, first, second, answer, sums) in [
+        (64, fused, wall, done(2, 2, 2), (2, 576, 1152, -192)),
+        (
+            64,
+            fused,
+            (AHEAD, 0, 1, 1010),
+            done(2, 2, 2),
+            (2, 640, 1216, -128),
+        ),
+        (
+            2,
+            fused,
+            (AHEAD, 50000000, 1, 1000),
+            done(2, 4, 2),
+            (4, 1152, 1152, -384),
+        ),
+        (
+            1,
+            Err(FrameError::HeapSpent { limit: 1 }),
+            wall,
+            Err(FrameError::HeapSpent { limit: 1 }),
+            (0, 0, 0, 0),
+        ),
+        (
+            64,
+            fused,
+            (AHEAD, 0, 2, 1000),
+            Err(FrameError::Size {
+                width: 2,
+                height: 1,
+            }),
+            once,
+        ),
+        (
+            64,
+            fused,
+            (MIRRORED, 0, 2, 1000),
+            Err(FrameError::Size {
+                width: 2,
+                height: 1,
+            }),
+            once,
+        ),
+        (
+            64,
+            fused,
+            (MIRRORED, 0, 1, 1000),
+            Err(FrameError::BadPose(BadPose::NotRotation)),
+            once,
+        ),
+        (
+            64,
+            fused,
+            (AHEAD, 1000000000, 1, 1000),
+            Err(FrameError::BadPose(BadPose::Range)),
+            once,
+        ),
+    ] {
+        let session = session(alloc, heap_blocks);
+        assert!(rt; session.is_some());
+        if let Some(mut session) = session {
+            let (blocks, known, weight, distance) = sums;
+            assert_eq!(rt; fuse(alloc, &mut session, wall), Some(first));
+            assert_eq!(rt; fuse(alloc, &mut session, second), Some(answer));
+            assert_eq!(rt;
+                session.totals(),
+                Ok(Totals {
+                    blocks,
+                    known,
+                    weight,
+                    distance
+                })
+            );
+            let listed = session
+                .voxels(alloc)
+                .ok()
+                .map(|(blocks, voxels)| (blocks, voxels.len() as u64));
+            assert_eq!(rt; listed, Some((blocks, known)));
+        }
+    }
+}

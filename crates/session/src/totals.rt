@@ -1,0 +1,91 @@
+ghost use Rattle.std.specs.Prelude.{◌≡◌, ◌<◌, ◌≤◌, ◌+◌, ◌^◌, fold};
+ghost use Rattle.session.specs.Fold.{at_most_u64 as at_most_u64_of, known_in, known_voxels, totals_of, within_i64 as within_i64_of};
+ghost use Rattle.session.specs.Sums.{IsSum, nothing, added, added_if};
+
+use crate::known::known_at;
+use crate::map::BlockMap;
+use scan_lang::{KnownVoxel, Totals};
+use voxel_block::{Block, BlockKey};
+
+/// Sums over known voxels: their number, their weights and their distances.
+#[derive(Clone, Copy)]
+pub struct Sums {
+    pub known: u128,
+    pub weight: u128,
+    pub distance: i128,
+}
+
+/// Totals over a map.
+pub fn totals(map: &BlockMap) -> Totals
+    ensures { result ≡ totals_of map.now }
+{
+    let sums = sums_over(map);
+    Totals {
+        blocks: map.len() as u64,
+        known: at_most_u64(sums.known),
+        weight: at_most_u64(sums.weight),
+        distance: within_i64(sums.distance),
+    }
+}
+
+/// The sums over all known voxels of a map.
+fn sums_over(map: &BlockMap) -> Sums
+    ensures { result ≡ fold added nothing (known_voxels map.now) }
+{
+    let mut sums = Sums {
+        known: 0,
+        weight: 0,
+        distance: 0,
+    };
+    for (key, block) in map.iter() {
+        sums = with_block(sums, *key, block);
+    }
+    sums
+}
+
+/// The sums with the known voxels of a block.
+fn with_block(sums: Sums, key: BlockKey, block: &Block) -> Sums
+    requires sum { IsSum sums }
+    requires few { sums.known < 2 ^ 79 }
+    ensures value { result ≡ fold added sums (known_in key block.now) }
+    ensures sum { IsSum result }
+    ensures few { result.known ≤ sums.known + 512 }
+{
+    let mut result = sums;
+    for i in 0..512_u16 {
+        result = with_voxel(result, known_at(key, i, block.get(i)));
+    }
+    result
+}
+
+/// The sums with one voxel more, if there is one.
+fn with_voxel(sums: Sums, voxel: Option<KnownVoxel>) -> Sums
+    requires sum { IsSum sums }
+    requires few { sums.known < 2 ^ 80 }
+    ensures value { result ≡ added_if sums voxel }
+    ensures sum { IsSum result }
+    ensures few { result.known ≤ sums.known + 1 }
+{
+    match voxel {
+        Some(voxel) => Sums {
+            known: sums.known + 1,
+            weight: sums.weight + u128::from(voxel.w),
+            distance: sums.distance + i128::from(voxel.f),
+        },
+        None => sums,
+    }
+}
+
+/// A number, held at the greatest one of 64 bits.
+fn at_most_u64(n: u128) -> u64
+    ensures { result ≡ at_most_u64_of n }
+{
+    n.min(u128::from(u64::MAX)) as u64
+}
+
+/// A number, held between the least and the greatest one of 64 bits with a sign.
+fn within_i64(z: i128) -> i64
+    ensures { result ≡ within_i64_of z }
+{
+    z.clamp(i128::from(i64::MIN), i128::from(i64::MAX)) as i64
+}
