@@ -1,3 +1,5 @@
 pub mod Cameras
 pub mod Grid
+pub mod Laws
 pub mod Opening
+pub mod Visibility

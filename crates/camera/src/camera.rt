@@ -1,11 +1,12 @@
-ghost use Rattle.std.specs.Prelude.{◌≡◌, ◌^◌, ◌<◌, ◌+◌, ◌↔◌, pos, ◌≤ℤ◌, ◌<ℤ◌, Ok, Err, Some, IfOk, IfSome, ℕ};
+ghost use Rattle.std.specs.Prelude.{◌≡◌, ◌^◌, ◌<◌, ◌+◌, ◌↔◌, false, pos, ◌≤ℤ◌, ◌<ℤ◌, Ok, Err, Some, IfOk, IfSome, ℕ};
 ghost use Rattle.fixed_geom.specs.Vectors.{AreWithin};
 ghost use Rattle.camera.specs.Cameras.{IsCamera, HasRanges, HasReach, FitsSphere, deepest, depth_of, ray as ray_of, project as pixel_of, is_active};
 ghost use Rattle.camera.specs.Grid.{key_at, nearest as nearest_of, nearest_voxel, voxel_coordinates, point_of, centre_of};
 ghost use Rattle.camera.specs.Opening.{camera_of, camera_tests, first_failing};
+ghost use Rattle.camera.specs.Visibility.{MeetsNone, may_be_seen};
 
 use crate::opening::{check_opening, failing_field};
-use crate::{grid, projection, ray, sphere};
+use crate::{grid, projection, ray, sphere, visibility};
 use fixed_geom::{Pose, Vec3};
 use std::marker::Model;
 use voxel_block::BlockKey;
@@ -123,12 +124,24 @@ impl Camera {
         projection::project(&self.fields, c)
     }
 
-    /// Whether a block is active at a pose: its centre lies in the sphere before the camera.
+    /// Whether a block is active at a pose: its centre lies in the sphere before the camera. Where it is not, none of
+    /// its voxels projects inside the image at a depth that a frame may touch.
     pub fn active(&self, pose: &Pose, key: BlockKey) -> bool
-        ensures { result ≡ is_active self.now pose.now key }
+        ensures value { result ≡ is_active self.now pose.now key }
+        ensures met { result ≡ false → MeetsNone self.now pose.now key }
     {
         let centre = self.block_centre(key);
         sphere::is_in_sphere(&self.fields, pose.cam(centre))
+    }
+
+    /// Whether a block may be seen at a pose. Where it may not, none of its voxels projects inside the image at a
+    /// depth that a frame may touch.
+    pub fn may_see(&self, pose: &Pose, key: BlockKey) -> bool
+        ensures value { result ≡ may_be_seen self.now pose.now key }
+        ensures unseen { result ≡ false → MeetsNone self.now pose.now key }
+    {
+        let centre = self.block_centre(key);
+        visibility::may_see(&self.fields, pose.cam(centre))
     }
 
     /// The block that a world point lies in. `None` where a coordinate of the block does not fit 16 bits.

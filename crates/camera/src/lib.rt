@@ -3,10 +3,12 @@
 
 mod camera;
 mod grid;
+pub mod laws;
 mod opening;
 mod projection;
 mod ray;
 mod sphere;
+mod visibility;
 
 pub use camera::{BadCamera, Camera, CameraFields};
 pub use opening::first_failing;

@@ -159,7 +159,7 @@ fn points_have_blocks_and_voxels(rt: HostRuntime) -> Result<(), BadCamera> {
 }
 
 #[test]
-fn blocks_in_the_sphere_are_active(rt: HostRuntime) -> Result<(), Fail> {
+fn blocks_are_active_and_may_be_seen(rt: HostRuntime) -> Result<(), Fail> {
     let camera = Camera::make(BASE).map_err(|_| Fail::from("camera"))?;
     let one = 1 << 30;
     let rows = PoseRows {
@@ -169,5 +169,9 @@ fn blocks_in_the_sphere_are_active(rt: HostRuntime) -> Result<(), Fail> {
     let pose = Pose::accept(&rows).map_err(|_| Fail::from("pose"))?;
     assert!(rt; camera.active(&pose, key(0, 0, 12)));
     assert!(rt; !camera.active(&pose, key(26, 0, 12)));
+    assert!(rt; camera.may_see(&pose, key(0, 0, 12)));
+    for (x, z) in [(0, -13), (0, 400), (100, 12)] {
+        assert!(rt; !camera.may_see(&pose, key(x, 0, z)), "{x} {z}");
+    }
     Ok(())
 }

@@ -3,8 +3,11 @@ pub mod Dots
 pub mod Floors
 pub mod Means
 pub mod PoseTests
+pub mod RoundTrip
+pub mod Segments
 pub mod Sizes
 pub mod Spellings
+pub mod Steps
 pub mod Whole
 pub mod Wide
 pub mod Worlds

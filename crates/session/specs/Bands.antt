@@ -5,10 +5,10 @@ use Rattle.std.specs.Int.{int_max}
 use Rattle.fixed_geom.specs.Division.{floor_div}
 use Rattle.fixed_geom.specs.declared.vector.Vec3.{Vec3}
 use Rattle.fixed_geom.specs.Poses.{world}
-use Rattle.fixed_geom.specs.Vectors.{vec}
 use Rattle.voxel_block.specs.declared.key.BlockKey.{BlockKey}
 use Rattle.camera.specs.Grid.{block_at}
 use Rattle.camera.specs.Cameras.{ray}
+use Rattle.camera.specs.Visibility.{sample_of}
 use Rattle.session.specs.declared.frame.Frame.{Frame}
 use Rattle.session.specs.Frames.{depth_at}
 
@@ -24,7 +24,7 @@ steps_of s a e = 1 + unsigned_abs (floor_div (pos 2 *ℤ pos (spread a e)) (pos 
 
 -- sample j of n, each coordinate by floor
 abbrev pub segment_point : (a e : Vec3) → (n j : ℕ) → Vec3
-segment_point a e n j = vec (a.x +ℤ floor_div (pos j *ℤ (e.x -ℤ a.x)) (pos n)) (a.y +ℤ floor_div (pos j *ℤ (e.y -ℤ a.y)) (pos n)) (a.z +ℤ floor_div (pos j *ℤ (e.z -ℤ a.z)) (pos n))
+segment_point a e n j = sample_of (pos j) (pos n) a e
 
 -- the blocks of the samples 0 to n
 abbrev pub segment_blocks : (s : ℤ) → (a e : Vec3) → List BlockKey

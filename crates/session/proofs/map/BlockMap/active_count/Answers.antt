@@ -20,7 +20,7 @@ pub loop-key-preserved-then-active : goal.loop-key-preserved-then-active
 loop-key-preserved-then-active c =
     let e = shorter c.in-Some.key.now c.next.new.self c.loop-key.key-iterator c.in-Some.ensures.steps in
     let b = c.loop-key.invariant.bound in record {
-      left = counted_yes (is_active c.args.frame.now) c.in-Some.key.now c.next.new.self c.loop-key.key-iterator c.loop-key.count _ c.in-Some.ensures.steps (sym c.active.ensures ∙ c.if-active.true) c.loop-key.invariant.left;
+      left = counted_yes (is_active c.args.frame.now) c.in-Some.key.now c.next.new.self c.loop-key.key-iterator c.loop-key.count _ c.in-Some.ensures.steps (sym c.active.ensures.value ∙ c.if-active.true) c.loop-key.invariant.left;
       bound = omega arith;
     }
 
@@ -28,7 +28,7 @@ pub loop-key-preserved : goal.loop-key-preserved
 loop-key-preserved c =
     let e = shorter c.in-Some.key.now c.next.new.self c.loop-key.key-iterator c.in-Some.ensures.steps in
     let b = c.loop-key.invariant.bound in record {
-      left = counted_no (is_active c.args.frame.now) c.in-Some.key.now c.next.new.self c.loop-key.key-iterator c.loop-key.count _ c.in-Some.ensures.steps (sym c.active.ensures ∙ c.if-active.false) c.loop-key.invariant.left;
+      left = counted_no (is_active c.args.frame.now) c.in-Some.key.now c.next.new.self c.loop-key.key-iterator c.loop-key.count _ c.in-Some.ensures.steps (sym c.active.ensures.value ∙ c.if-active.false) c.loop-key.invariant.left;
       bound = omega arith;
     }
 

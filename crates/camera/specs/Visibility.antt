@@ -1,0 +1,82 @@
+-- Which blocks a camera may see, which voxels a frame may change, and which blocks a segment goes through.
+use Rattle.std.specs.Prelude.{ℕ, ◌<◌, ◌&&◌, Bool, IsTrue, ℤ, pos, neg_ℤ, ◌+ℤ◌, ◌-ℤ◌, ◌*ℤ◌, ◌≤ℤ◌, ◌<ℤ◌, int_le}
+use Rattle.std.specs.Int.{int_max, int_min}
+use Rattle.fixed_geom.specs.Division.{floor_div}
+use Rattle.fixed_geom.specs.declared.vector.Vec3.{Vec3}
+use Rattle.fixed_geom.specs.Vectors.{vec}
+use Rattle.fixed_geom.specs.Poses.{Pose, cam}
+use Rattle.voxel_block.specs.declared.key.BlockKey.{BlockKey}
+use Rattle.camera.specs.declared.camera.CameraFields.{CameraFields}
+use Rattle.camera.specs.Cameras.{deepest, is_inside, left, right, within}
+use Rattle.camera.specs.Grid.{centre_of, point_of}
+
+-- ---- the visibility test
+
+-- how far from the camera point of a block's centre the test looks on each axis: 14 voxels
+abbrev pub looks_round : CameraFields → ℤ
+looks_round k = pos 14 *ℤ k.voxel
+
+-- the greatest depth that a frame may touch so near to the depth z
+abbrev pub side_depth : CameraFields → (z : ℤ) → ℤ
+side_depth k z = int_min (z +ℤ looks_round k) (deepest k)
+
+-- whether so near to the depth z there may be depths that a frame may touch
+abbrev pub is_at_depth : CameraFields → (z : ℤ) → Bool
+is_at_depth k z = int_le (pos 1) (z +ℤ looks_round k) && int_le (z -ℤ looks_round k) (deepest k)
+
+-- whether what is within n of x on one axis reaches between the two sides of the image, as far apart as they are at the depth h
+abbrev pub is_between_sides : (f c size n x h : ℤ) → Bool
+is_between_sides f c size n x h = int_le (neg_ℤ (left c *ℤ h)) (f *ℤ (x +ℤ n)) && int_le (f *ℤ (x -ℤ n)) (int_max (pos 0) (right size c) *ℤ h)
+
+-- whether so near to a camera point there may be points between the left and the right side, and between the upper and the lower one
+abbrev pub is_in_view : CameraFields → Vec3 → Bool
+is_in_view k c = is_between_sides k.fx k.cx k.width (looks_round k) c.x (side_depth k c.z) && is_between_sides k.fy k.cy k.height (looks_round k) c.y (side_depth k c.z)
+
+-- whether a block whose centre has the camera point c may be seen
+abbrev pub may_be_seen_at : CameraFields → Vec3 → Bool
+may_be_seen_at k c = is_at_depth k c.z && is_in_view k c
+
+-- whether a block may be seen by the camera at a pose
+abbrev pub may_be_seen : CameraFields → Pose → BlockKey → Bool
+may_be_seen k m b = may_be_seen_at k (cam m (centre_of k.voxel b))
+
+-- ---- voxels that are met
+
+-- a camera point projects inside the image, at a depth of at most far and mu together (inside has a depth of at least 1)
+pub record IsMetAt (k : CameraFields) (p : Vec3) : Type 0 where
+  pub inside : IsTrue (is_inside k p)
+  pub deep : p.z ≤ℤ deepest k
+
+-- voxel i of block b is met before the camera at a pose, whatever the frame: a frame's depths decide then whether it changes
+abbrev pub IsMet : CameraFields → Pose → BlockKey → (i : ℕ) → Type 0
+IsMet k m b i = IsMetAt k (cam m (point_of k.voxel b i))
+
+-- no voxel of block b is met
+abbrev pub MeetsNone : CameraFields → Pose → BlockKey → Type 0
+MeetsNone k m b = (i : ℕ) → i < 512 → ¬ IsMet k m b i
+
+-- ---- blocks that a segment goes through
+
+-- on one axis, block b has the point of the segment from a to e at p / q of the way
+pub record IsPiercedOn (s p q a e b : ℤ) : Type 0 where
+  pub low : ((pos 8 *ℤ s *ℤ b) *ℤ q) ≤ℤ (a *ℤ q +ℤ p *ℤ (e -ℤ a))
+  pub high : (a *ℤ q +ℤ p *ℤ (e -ℤ a)) <ℤ ((pos 8 *ℤ s *ℤ (b +ℤ pos 1)) *ℤ q)
+
+-- block b has the point of the segment from a to e at p / q of the way, where voxels have the size s
+pub record IsPiercedAt (s p q : ℤ) (a e : Vec3) (b : BlockKey) : Type 0 where
+  pub start : pos 0 ≤ℤ p
+  pub finish : p ≤ℤ q
+  pub divisor : pos 1 ≤ℤ q
+  pub x : IsPiercedOn s p q a.x e.x b.x
+  pub y : IsPiercedOn s p q a.y e.y b.y
+  pub z : IsPiercedOn s p q a.z e.z b.z
+
+-- sample j of n of the segment from a to e, each coordinate by floor
+abbrev pub sample_of : (j n : ℤ) (a e : Vec3) → Vec3
+sample_of j n a e = vec (a.x +ℤ floor_div (j *ℤ (e.x -ℤ a.x)) n) (a.y +ℤ floor_div (j *ℤ (e.y -ℤ a.y)) n) (a.z +ℤ floor_div (j *ℤ (e.z -ℤ a.z)) n)
+
+-- each coordinate of a block is from -18876 to 18875
+pub record IsNearBlock (b : BlockKey) : Type 0 where
+  pub x : IsTrue (within (neg_ℤ (pos 18876)) (pos 18875) b.x)
+  pub y : IsTrue (within (neg_ℤ (pos 18876)) (pos 18875) b.y)
+  pub z : IsTrue (within (neg_ℤ (pos 18876)) (pos 18875) b.z)

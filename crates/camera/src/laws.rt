@@ -1,0 +1,25 @@
+ghost use Rattle.camera.specs.Laws.{MetIsActive, NearestIsActive, PiercedIsActive, UnseenMeetsNone};
+
+/// No voxel of a block that may not be seen projects inside the image at a depth that a frame may
+/// touch. The body is empty: the clause is the theorem.
+pub fn unseen_meets_none()
+    ensures { UnseenMeetsNone }
+{}
+
+/// A block is active if one of its voxels projects inside the image at a depth that a frame may
+/// touch.
+pub fn met_is_active()
+    ensures { MetIsActive }
+{}
+
+/// A block is active, and its coordinates are from -18876 to 18875, if the segment between two
+/// points of a pixel's ray goes through it.
+pub fn pierced_is_active()
+    ensures { PiercedIsActive }
+{}
+
+/// The voxel nearest to a point of a pixel's ray lies in an active block, and the block's
+/// coordinates fit 16 bits.
+pub fn nearest_is_active()
+    ensures { NearestIsActive }
+{}
