@@ -1,0 +1,2 @@
+pub mod CellEdits
+pub mod FreeLists

@@ -1,0 +1,9 @@
+pub mod Changes
+pub mod Contents
+pub mod Hash
+pub mod Removal
+pub mod Seen
+pub mod Sound
+pub mod Spot
+pub mod Table
+pub mod Walk

@@ -1,0 +1,13 @@
+//! A hash table from the keys of blocks to cells.
+#![tactic(auto)]
+
+mod full;
+mod linked_node;
+mod spot;
+mod table;
+
+pub use full::Full;
+pub use table::HashTable;
+
+#[cfg(test)]
+mod tests;
