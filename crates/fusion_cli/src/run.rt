@@ -1,6 +1,7 @@
 ghost use Rattle.std.specs.Prelude.{◌≡◌, ◌≤◌, ◌⊎◌, ◌↔◌, true, false, map, string_bytes, ℕ, take, OnOk, OnErr, IfOk, IfErr, IsErrOf};
 ghost use Rattle.std.specs.Io.KnownBytes.{Appends};
 ghost use Rattle.scan_io.specs.Causes.{Rose, HasCause};
+ghost use Rattle.session.specs.Answers.{state_of};
 ghost use Rattle.session.specs.Fold.{after, reply_to};
 ghost use Rattle.scan_lang.specs.declared.entry.Entry.TheVariants as entries;
 ghost use Rattle.fusion_cli.specs.Run.{is_fuse as is_fuse_command, Answers, IsWhole, ended, stop_of};
@@ -127,8 +128,9 @@ fn run_scan<S: Source, K: Sink>(alloc: Global, source: &mut S, sink: &mut K) -> 
 
 /// Acts on an entry, and gives the reply to it.
 fn act(alloc: Global, session: &mut Session, entry: Entry) -> Result<Reply, Stop>
-    ensures reply { IfOk result (λ r. r ≡ reply_to session.old.config session.old.state entry) }
-    ensures state { OnOk result (session.new ≡ record { config = session.old.config; state = after session.old.config session.old.state entry }) }
+    ensures reply { IfOk result (λ r. r ≡ reply_to session.old.config (state_of session.old) entry) }
+    ensures state { OnOk result (state_of session.new ≡ after session.old.config (state_of session.old) entry) }
+    ensures config { session.new.config ≡ session.old.config }
     ensures error { IfErr result (λ e. e ≡ Stop.NoMemory) }
 {
     match entry {
@@ -149,8 +151,9 @@ fn fuse(
     rows: &PoseRows,
     depths: DepthFrame,
 ) -> Result<Reply, Stop>
-    ensures reply { IfOk result (λ r. r ≡ reply_to session.old.config session.old.state (entries.Frame rows.now depths)) }
-    ensures state { OnOk result (session.new ≡ record { config = session.old.config; state = after session.old.config session.old.state (entries.Frame rows.now depths) }) }
+    ensures reply { IfOk result (λ r. r ≡ reply_to session.old.config (state_of session.old) (entries.Frame rows.now depths)) }
+    ensures state { OnOk result (state_of session.new ≡ after session.old.config (state_of session.old) (entries.Frame rows.now depths)) }
+    ensures config { session.new.config ≡ session.old.config }
     ensures error { IfErr result (λ e. e ≡ Stop.NoMemory) }
 {
     match session.frame(alloc, rows, depths) {

@@ -70,17 +70,6 @@ at_touched m b q =
       | false ↦ λ lacked. at_put m b q lacked
     ] refl
 
--- ---- the map's entries behind a touch
-
-pub touched_again : (es : List (BlockKey × List Voxel)) (m : BlockMap) (b : BlockKey) → from_entries es ≡ m → is_some (lookup (is_at (key_cmp b)) es) ≡ true → m ≡ touched m b
-touched_again es m b is had = ap (λ t. cond t m (insert m b new_block)) (sym (ap (λ n. contains_key n b) (sym is) ∙ ap is_some (get_key es b) ∙ had))
-
-pub touched_first : (es fs : List (BlockKey × List Voxel)) (m : BlockMap) (b : BlockKey) (v : List Voxel) → from_entries es ≡ m → is_some (lookup (is_at (key_cmp b)) es) ≡ false → v ≡ new_block
-    → ((q : BlockKey) → lookup (is_at (key_cmp q)) fs ≡ cond (is_at (key_cmp b) q) (Some v) (lookup (is_at (key_cmp q)) es)) → from_entries {R = key_cmp} fs ≡ touched m b
-touched_first es fs m b v is lacked new put =
-    one_put es fs b v put ∙ (λ i. insert (is i) b (new i))
-    ∙ ap (λ t. cond t m (insert m b new_block)) (sym (ap (λ n. contains_key n b) (sym is) ∙ ap is_some (get_key es b) ∙ lacked))
-
 -- ---- many blocks
 
 has_all : (m : BlockMap) (ks : List BlockKey) (q : BlockKey) → contains_key (fold touched m ks) q ≡ (contains_key m q || list_any (same_key q) ks)
@@ -111,7 +100,7 @@ below_pairs : {X Y : Type 0} (g : BlockKey → Y) (x : BlockKey) (es : List (Blo
 below_pairs g x [] = refl
 below_pairs g x (e ∷ es) = ap (λ t. is_lt (key_cmp x e.0) && t) (below_pairs g x es)
 
-sorted_pairs : {X Y : Type 0} (g : BlockKey → Y) (es : List (BlockKey × X)) → is_sorted key_cmp (pairs_of g (map (λ e. e.0) es)) ≡ is_sorted key_cmp es
+pub sorted_pairs : {X Y : Type 0} (g : BlockKey → Y) (es : List (BlockKey × X)) → is_sorted key_cmp (pairs_of g (map (λ e. e.0) es)) ≡ is_sorted key_cmp es
 sorted_pairs g [] = refl
 sorted_pairs g (e ∷ es) = λ i. below_pairs g e.0 es i && sorted_pairs g es i
 
@@ -119,7 +108,7 @@ keys_of_pairs : {Y : Type 0} (g : BlockKey → Y) (ks : List BlockKey) → map (
 keys_of_pairs g [] = refl
 keys_of_pairs g (k ∷ ks) = ap (λ ls. k ∷ ls) (keys_of_pairs g ks)
 
-entries_of_sorted : {X : Type 0} (es : List (BlockKey × X)) → T (is_sorted key_cmp es) → entries (from_entries {R = key_cmp} es) ≡ es
+pub entries_of_sorted : {X : Type 0} (es : List (BlockKey × X)) → T (is_sorted key_cmp es) → entries (from_entries {R = key_cmp} es) ≡ es
 entries_of_sorted es h = ap entries (same_map keys_total exact_keys _ _ (λ q. get-from_entries keys_total es q ∙ sym (get-from_sorted key_cmp es q h))) ∙ entries-from_sorted key_cmp es h
 
 -- a map by a rule has the keys that it was made of
@@ -133,9 +122,3 @@ keys_updated f m = keys_by_rule (λ b. updated f b (voxels_at m b)) m
 -- the blocks that the fused map has are there once the band is touched
 pub need_is : (f : Frame) (m : BlockMap) → active_count f (fold touched m (band f)) ≡ need m f
 need_is f m = ap (count_by (is_active f)) (sym (keys_updated f (fold touched m (band f))) ∙ ap keys (fuse_is f m))
-
--- ---- the map's entries
-
-pub entries_updated : (f : Frame) (es fs : List (BlockKey × List Voxel)) → fs ≡ map (λ e. (e.0, updated f e.0 e.1)) es → from_entries {R = key_cmp} fs ≡ all_updated f (from_entries es)
-unfolding all_updated
-entries_updated f es fs is = each_changed (updated f) new_block es fs is

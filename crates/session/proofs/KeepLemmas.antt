@@ -1,74 +1,75 @@
--- A map keeps its blocks while others are touched.
-use Rattle.std.proofs.Common.{◌≡◌, Bool, true, false, cond, List, [], ◌∷◌, refl, sym, subst, ap, ◌∙◌}
-use Rattle.std.specs.Prelude.{Option, Some, None, is_some, IsTrue, Result, Ok, Err, OnOk, OnErr}
-use Rattle.std.specs.FinMap.{get, contains_key, insert, retain_keys, find, from_entries, get-from_entries, get-insert, get-retain_keys, same_map}
-use Rattle.std.specs.FinMap.Entries.{where_key, find-where_key}
-use Rattle.std.specs.Map.Calls.{RetainsPairs}
-use Rattle.std.specs.declared.cmp.Ordering.{Ordering}
-use Rattle.std.specs.declared.cmp.Ordering.TheVariants.{Equal}
+-- Slots stay while others are touched.
+use Rattle.std.proofs.Common.{◌≡◌, Bool, true, false, cond, refl, sym, subst, ap, ◌∙◌}
+use Rattle.std.specs.Prelude.{List, Option, Some, None, is_some, IsTrue, Result, Ok, Err, OnOk, OnErr}
+use Rattle.std.specs.FinMap.{get, contains_key, insert, retain_keys, get-insert, get-retain_keys, same_map}
 use Rattle.voxel_block.specs.declared.key.BlockKey.{BlockKey}
+use Rattle.voxel_block.specs.declared.voxel.Voxel.{Voxel}
 use Rattle.voxel_block.specs.Blocks.{new_block}
 use Rattle.voxel_block.specs.Keys.{key_cmp}
 use Rattle.voxel_block.proofs.KeyLaws.{keys_total, exact_keys}
-use Rattle.session.specs.Maps.{BlockMap, KeepsBlocks, touched}
+use Rattle.spatial_hash.specs.Contents.{contents}
+use Rattle.block_places.specs.Places.{IsPlaced, Places, Slots, blocks_of, touched}
+use Rattle.block_places.proofs.Blocks.{has-blocks}
+use Rattle.block_places.proofs.Keeping.{alike}
+use Rattle.block_places.proofs.Moves.{with_slots}
+use Rattle.session.specs.Rooms.{KeepsSlots}
 use Rattle.session.proofs.MapLemmas.{same_key, same_key_is}
 
-pub keeps_same : (m n : BlockMap) → n ≡ m → KeepsBlocks m n
-keeps_same m n e = record { kept = λ b h. ap (λ x. get x b) e }
+pub keeps_same : (m n : Places) → n ≡ m → KeepsSlots m n
+keeps_same m n e = record { table = ap (λ (p : Places). p.table) e; heap = ap (λ (p : Places). p.heap) e; slots = λ b h. ap (λ (p : Places). get p.slots b) e }
 
-pub keeps_more : (m n o : BlockMap) → KeepsBlocks m n → KeepsBlocks n o → KeepsBlocks m o
-keeps_more m n o first second = record { kept = λ b h. second.kept b (ap is_some (first.kept b h) ∙ h) ∙ first.kept b h }
+pub keeps_more : (m n o : Places) → KeepsSlots m n → KeepsSlots n o → KeepsSlots m o
+keeps_more m n o first second = record {
+  table = second.table ∙ first.table;
+  heap = second.heap ∙ first.heap;
+  slots = λ b h. second.slots b (ap is_some (first.slots b h) ∙ h) ∙ first.slots b h;
+}
 
--- a block that was put at a key that the map lacks
-kept_beside : (m : BlockMap) (b q : BlockKey) → contains_key m b ≡ false → IsTrue (contains_key m q) → get (insert m b new_block) q ≡ get m q
-kept_beside m b q lacked had = get-insert keys_total m b new_block q
-    ∙ elim (same_key q b) as (λ t. same_key q b ≡ t → cond t (Some new_block) (get m q) ≡ get m q) [
-      | true ↦ λ e. absurd (let is : true ≡ false = sym had ∙ ap (contains_key m) (same_key_is q b e) ∙ lacked in cc)
+-- a block that was put in the slot of a key that had none
+kept_beside : (s : Slots) (b q : BlockKey) → contains_key s b ≡ false → IsTrue (contains_key s q) → get (insert s b (Some new_block)) q ≡ get s q
+kept_beside s b q lacked had = get-insert keys_total s b (Some new_block) q
+    ∙ elim (same_key q b) as (λ t. same_key q b ≡ t → cond t (Some (Some new_block)) (get s q) ≡ get s q) [
+      | true ↦ λ e. absurd (let is : true ≡ false = sym had ∙ ap (contains_key s) (same_key_is q b e) ∙ lacked in cc)
       | false ↦ λ e. refl
     ] refl
 
-pub keeps_touched : (m : BlockMap) (b : BlockKey) → KeepsBlocks m (touched m b)
-keeps_touched m b = record {
-  kept = λ q had. elim (contains_key m b) as (λ t. contains_key m b ≡ t → get (cond t m (insert m b new_block)) q ≡ get m q) [
-    | true ↦ λ e. refl
-    | false ↦ λ e. kept_beside m b q e had
-  ] refl;
-}
+keeps_touch : (p : Places) (b : BlockKey) → KeepsSlots p (touched p b)
+keeps_touch p b =
+    elim (contains_key p.slots b) as (λ t. contains_key p.slots b ≡ t → KeepsSlots p (cond t p (with_slots p (insert p.slots b (Some new_block))))) [
+      | true ↦ λ e. keeps_same p p refl
+      | false ↦ λ e. record { table = refl; heap = refl; slots = λ q had. kept_beside p.slots b q e had }
+    ] refl
+
+pub keeps_touched : (m n : Places) (b : BlockKey) → n ≡ touched m b → KeepsSlots m n
+keeps_touched m n b e = subst (KeepsSlots m) (sym e) (keeps_touch m b)
 
 -- a block was touched, or memory ran out
-pub keeps_by_result : {X E : Type 0} (r : Result X E) (m n : BlockMap) (b : BlockKey) → OnOk r (n ≡ touched m b) → OnErr r (n ≡ m) → KeepsBlocks m n
-keeps_by_result (Ok x) m n b ok err = subst (KeepsBlocks m) (sym ok) (keeps_touched m b)
+pub keeps_by_result : {X E : Type 0} (r : Result X E) (m n : Places) (b : BlockKey) → OnOk r (n ≡ touched m b) → OnErr r (n ≡ m) → KeepsSlots m n
+keeps_by_result (Ok x) m n b ok err = keeps_touched m n b ok
 keeps_by_result (Err e) m n b ok err = keeps_same m n err
 
--- ---- blocks that are taken away again
-
--- where the closure keeps the entries whose keys pass a test, as they are, these are left
-pub kept_pairs : {F K X : Type 0} (cmp : K → K → Ordering) (T : F → K → X → Bool → X → F → Type 0) (test : K → Bool) (f : F) → ((k : K) (v : X) (b : Bool) (w : X) (f' : F) → T f k v b w f' → (b ≡ test k) × (w ≡ v) × (f' ≡ f))
-    → (es kept : List (K × X)) → RetainsPairs T f es kept → kept ≡ where_key cmp test es
-kept_pairs cmp T test f h [] kept r = r
-kept_pairs cmp T test f h (e ∷ es) kept r =
-    let a = h e.0 e.1 r.0 r.1 r.2 r.4 in
-    let rest = kept_pairs cmp T test f h es r.3 (subst (λ u. RetainsPairs T u es r.3) a.2 r.5) in
-    r.6 ∙ (λ i. cond (a.0 i) ((e.0, a.1 i) ∷ rest i) (rest i))
-
-alike : (test : BlockKey → Bool) (q x : BlockKey) → key_cmp q x ≡ Equal → test x ≡ test q
-alike test q x t = ap test (sym (exact_keys q x t))
-
-module _ {X : Type 0} (test : BlockKey → Bool) where
-  pub entries_kept : (es fs : List (BlockKey × X)) → fs ≡ where_key key_cmp test es → from_entries {R = key_cmp} fs ≡ retain_keys (from_entries es) test
-  entries_kept es fs is = same_map keys_total exact_keys _ _ (λ q.
-      get-from_entries keys_total fs q ∙ ap (find key_cmp q) is ∙ find-where_key key_cmp test q (alike test q) es ∙ ap (λ o. cond (test q) o None) (sym (get-from_entries keys_total es q))
-      ∙ sym (get-retain_keys (from_entries es) test q (alike test q)))
+-- ---- slots that are taken out again
 
 absent : {X : Type 0} (o : Option X) → is_some o ≡ false → None ≡ o
 absent None e = refl
 absent (Some x) e = absurd (cc)
 
--- a map that kept its blocks, without those that it did not have
-pub put_back : (m n : BlockMap) (test : BlockKey → Bool) → ((b : BlockKey) → test b ≡ contains_key m b) → KeepsBlocks m n → retain_keys n test ≡ m
-put_back m n test is keeps = same_map keys_total exact_keys _ _ (λ q.
-    get-retain_keys n test q (alike test q) ∙ ap (λ t. cond t (get n q) None) (is q)
-    ∙ elim (contains_key m q) as (λ t. contains_key m q ≡ t → cond t (get n q) None ≡ get m q) [
-      | true ↦ λ had. keeps.kept q had
-      | false ↦ λ lacked. absent (get m q) lacked
+-- the slots that were kept, without those that were not there
+back : (s t : Slots) (test : BlockKey → Bool) → ((b : BlockKey) → test b ≡ contains_key s b) → ((b : BlockKey) → IsTrue (contains_key s b) → get t b ≡ get s b) → retain_keys t test ≡ s
+back s t test is keeps = same_map keys_total exact_keys _ _ (λ q.
+    get-retain_keys t test q (alike test q) ∙ ap (λ b. cond b (get t q) None) (is q)
+    ∙ elim (contains_key s q) as (λ b. contains_key s q ≡ b → cond b (get t q) None ≡ get s q) [
+      | true ↦ λ had. keeps q had
+      | false ↦ λ lacked. absent (get s q) lacked
     ] refl)
+
+pub put_back : (m n : Places) (test : BlockKey → Bool) → ((b : BlockKey) → test b ≡ contains_key (blocks_of m) b) → KeepsSlots m n → with_slots n (retain_keys n.slots test) ≡ m
+put_back m n test is keeps =
+    let slots : retain_keys n.slots test ≡ m.slots = back m.slots n.slots test (λ b. is b ∙ has-blocks m b) keeps.slots in
+    λ i. record { slots = slots i; table = keeps.table i; heap = keeps.heap i }
+
+-- no key that is away is taken out
+pub away_known : (m n : Places) (test : BlockKey → Bool) → IsPlaced m → ((b : BlockKey) → test b ≡ contains_key (blocks_of m) b) → KeepsSlots m n → (k : BlockKey) → IsTrue (contains_key (contents n.table) k) → IsTrue (test k)
+away_known m n test placed is keeps k h =
+    let was : contains_key (contents m.table) k ≡ true = ap (λ t. contains_key (contents t) k) (sym keeps.table) ∙ h in
+    is k ∙ has-blocks m k ∙ ap is_some ((placed.away k).1 was)

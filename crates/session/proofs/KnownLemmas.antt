@@ -5,7 +5,12 @@ use Rattle.std.specs.List.{flat_map, filter_map, enumerate_from, cons_option}
 use Rattle.voxel_block.specs.declared.key.BlockKey.{BlockKey}
 use Rattle.voxel_block.specs.declared.voxel.Voxel.{Voxel}
 use Rattle.scan_lang.specs.declared.reply.KnownVoxel.{KnownVoxel}
-use Rattle.session.specs.Fold.{known_at, known_in}
+use Rattle.std.specs.FinMap.{get, keys, entries}
+use Rattle.session.specs.Fold.{known_at, known_in, known_voxels}
+use Rattle.session.specs.Maps.{BlockMap}
+use Rattle.session.specs.Sums.{known_in_option}
+use Rattle.session.proofs.KeyLemmas.{entries_by_keys, marked}
+use Rattle.session.proofs.MapLemmas.{pairs_of}
 
 drop_at : {X : Type 0} (xs : List X) (i : ℕ) (x : X) → slice_get xs i ≡ Some x → drop i xs ≡ x ∷ drop (suc i) xs
 drop_at [] i x is = absurd (cc)
@@ -40,9 +45,21 @@ left_none b voxels i e long = ap (known_from b i) (drop_all voxels i (long ∙ s
 
 -- ---- the blocks that are still to come
 
--- the known voxels of entries
-abbrev pub known_among : List (BlockKey × List Voxel) → List KnownVoxel
-known_among es = flat_map (λ e. known_in e.0 e.1) es
+-- the known voxels of the blocks that a map has at keys
+abbrev pub known_among : BlockMap → List BlockKey → List KnownVoxel
+known_among m ks = flat_map (λ k. known_in_option k (get m k)) ks
+
+of_pairs : (m : BlockMap) (ks : List BlockKey) → known_among m ks ≡ flat_map (λ p. known_in_option p.0 p.1) (pairs_of (get m) ks)
+of_pairs m [] = refl
+of_pairs m (k ∷ ks) = ap (λ xs. known_in_option k (get m k) ++ xs) (of_pairs m ks)
+
+of_entries : (es : List (BlockKey × List Voxel)) → flat_map (λ p. known_in_option p.0 p.1) (marked es) ≡ flat_map (λ e. known_in e.0 e.1) es
+of_entries [] = refl
+of_entries (e ∷ es) = ap (λ xs. known_in e.0 e.1 ++ xs) (of_entries es)
+
+-- those at all its keys are all of the map
+pub known_by_keys : (m : BlockMap) → known_among m (keys m) ≡ known_voxels m
+known_by_keys m = of_pairs m (keys m) ∙ ap (flat_map (λ p. known_in_option p.0 p.1)) (entries_by_keys m) ∙ of_entries (entries m)
 
 -- ---- a list of what has come
 

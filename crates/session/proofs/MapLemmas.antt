@@ -5,7 +5,8 @@ use Rattle.std.specs.Option.{option_map}
 use Rattle.std.specs.List.{list_any, count_by}
 use Rattle.std.specs.Ordering.{eq_by_cmp}
 use Rattle.std.specs.Cmp.{Equal-is}
-use Rattle.std.specs.FinMap.{FinMap, get, keys, from_entries, find, get-from_entries, contains_key-keys, same_map}
+use Rattle.std.specs.FinMap.{FinMap, get, keys, entries, len, len-entries, from_entries, find, get-from_entries, contains_key-keys, same_map}
+use Rattle.std.proofs.lemmas.List.{length-map}
 use Rattle.std.proofs.lemmas.List.Sums.{sum_by-cons}
 use Rattle.voxel_block.specs.declared.key.BlockKey.{BlockKey}
 use Rattle.voxel_block.specs.Keys.{key_cmp}
@@ -39,7 +40,7 @@ module _ {X : Type 0} where
       → from_entries {R = key_cmp} (pairs_of g ks) ≡ from_entries (pairs_of h ls)
   same_pairs g h ks ls has is = same_map keys_total exact_keys _ _ (λ q. get-pairs_of g ks q ∙ (λ i. cond (has q i) (Some (is q i)) None) ∙ sym (get-pairs_of h ls q))
 
-  by_default : (g : X → X) (d : X) (o : Option X) → option_map g o ≡ cond (is_some o) (Some (g (unwrap_or o d))) None
+  pub by_default : (g : X → X) (d : X) (o : Option X) → option_map g o ≡ cond (is_some o) (Some (g (unwrap_or o d))) None
   by_default g d None = refl
   by_default g d (Some x) = refl
 
@@ -72,3 +73,6 @@ module _ {X : Type 0} (test : X → Bool) where
 
 pub shorter : {X : Type 0} (x : X) (xs ys : List X) → ys ≡ x ∷ xs → length ys ≡ length xs + 1
 shorter x xs ys is = ap length is ∙ (omega arith)
+
+pub count_keys : {X : Type 0} (m : FinMap key_cmp X) → len m ≡ length (keys m)
+count_keys m = len-entries m ∙ sym (length-map (entries m) (λ e. e.0))

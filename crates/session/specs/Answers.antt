@@ -1,22 +1,31 @@
 -- What a session holds and answers.
-use Rattle.std.specs.Prelude.{◌≡◌, ℕ, ◌<◌, ◌≤◌, if◌then◌else◌, Result, Ok, Err, ⊤}
+use Rattle.std.specs.Prelude.{◌≡◌, ℕ, ◌<◌, ◌≤◌, if◌then◌else◌, Option, Result, Ok, Err, ⊤}
 use Rattle.fixed_geom.specs.Poses.{Pose}
 use Rattle.fixed_geom.specs.PoseTest.{accepted, pose_of}
 use Rattle.fixed_geom.specs.declared.pose.PoseRows.{PoseRows}
 use Rattle.fixed_geom.specs.declared.pose.BadPose.{BadPose}
 use Rattle.depth_frame.specs.Pictures.{Picture}
+use Rattle.block_places.specs.Places.{Places, blocks_of}
 use Rattle.scan_lang.specs.Config.{Config}
 use Rattle.scan_lang.specs.declared.reply.FrameDone.{FrameDone}
 use Rattle.session.specs.declared.frame.Frame.{Frame}
+use Rattle.session.specs.declared.room.Plan.{Plan}
 use Rattle.session.specs.declared.error.FrameError.{FrameError}
 use Rattle.session.specs.declared.error.FrameError.TheVariants as errors
 use Rattle.session.specs.Frames.{frame_of}
 use Rattle.session.specs.Fold.{State, size, bad_pose, heap, has_size, judged, fused, frame_done}
 
--- a session: what its map is read and fused by, and the state
+-- a session: what its map is read and fused by, where the blocks of its map lie, the number of accepted frames, and the
+-- pose of the last one
 pub record Held : Type 0 where
   pub config : Config
-  pub state : State
+  pub places : Places
+  pub frames : ℕ
+  pub last : Option Pose
+
+-- the state that it tells: the map has each known key's block, wherever it lies
+abbrev pub state_of : Held → State
+state_of h = record { blocks = blocks_of h.places; frames = h.frames; last = h.last }
 
 -- what is answered to a frame is what is judged of it, unless memory runs out
 abbrev pub AnswersFrame : Config → State → PoseRows → Picture → Result FrameDone FrameError → Type 0
@@ -44,3 +53,8 @@ AnswersRoom limit n (Err (errors.HeapSpent top)) = (limit < n) × (top ≡ limit
 AnswersRoom limit n (Err errors.NoMemory) = ⊤
 AnswersRoom limit n (Err (errors.Size width height)) = ⊥
 AnswersRoom limit n (Err (errors.BadPose why)) = ⊥
+
+-- the number of active blocks that a plan tells
+abbrev pub resident_of : Result Plan FrameError → Result ℕ FrameError
+resident_of (Ok plan) = Ok plan.resident
+resident_of (Err why) = Err why

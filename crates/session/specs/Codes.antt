@@ -1,21 +1,14 @@
 -- How values are stored, which Rattle asks for; no contract cites it.
 use Rattle.std.specs.Prelude.{ℕ, ℤ, Option, refl}
-use Rattle.std.specs.Coded.{Coded, code_by, coded×, coded_ℕ, coded_ℤ, coded_list, coded_option}
-use Rattle.std.specs.FinMap.{code}
+use Rattle.std.specs.Coded.{Coded, code_by, coded×, coded_ℕ, coded_ℤ, coded_option}
 use Rattle.fixed_geom.specs.declared.vector.Vec3.{Vec3}
 use Rattle.fixed_geom.specs.Vectors.{vec}
 use Rattle.fixed_geom.specs.Poses.{Pose, of_rows, row_x, row_y, row_z}
-use Rattle.voxel_block.specs.Keys.{coded_key}
-use Rattle.voxel_block.specs.Voxels.{coded_voxel}
+use Rattle.block_places.specs.Codes.{coded_places}
+use Rattle.block_places.specs.Places.{Places}
 use Rattle.camera.specs.declared.camera.CameraFields.{CameraFields}
 use Rattle.scan_lang.specs.Config.{Config}
-use Rattle.session.specs.Maps.{BlockMap}
-use Rattle.session.specs.Fold.{State}
 use Rattle.session.specs.Answers.{Held}
-
--- a map is stored as the list of its entries
-abbrev pub coded_map : Coded BlockMap
-coded_map = code coded_key (coded_list coded_voxel)
 
 -- a point is stored as its coordinates
 abbrev coded_point : Coded Vec3
@@ -24,10 +17,6 @@ coded_point = code_by (ℤ × (ℤ × ℤ)) (coded× coded_ℤ (coded× coded_�
 -- a pose is stored as its rows
 abbrev coded_pose : Coded Pose
 coded_pose = code_by (Vec3 × (Vec3 × (Vec3 × Vec3))) (coded× coded_point (coded× coded_point (coded× coded_point coded_point))) (λ m. (row_x m, (row_y m, (row_z m, m.t)))) (λ p. of_rows p.0 p.1.0 p.1.1.0 p.1.1.1) (λ _. refl)
-
--- a state is stored as its fields
-abbrev pub coded_state : Coded State
-coded_state = code_by (BlockMap × (ℕ × Option Pose)) (coded× coded_map (coded× coded_ℕ (coded_option coded_pose))) (λ s. (s.blocks, (s.frames, s.last))) (λ p. record { blocks = p.0; frames = p.1.0; last = p.1.1 }) (λ _. refl)
 
 -- a camera is stored as its fields
 abbrev coded_camera : Coded CameraFields
@@ -61,6 +50,6 @@ coded_config = code_by
     (λ p. record { version = p.0; camera = p.1.0; max_weight = p.1.1.0; heap_blocks = p.1.1.1.0; buckets = p.1.1.1.1.0; empty_f = p.1.1.1.1.1 })
     (λ _. refl)
 
--- a session is stored as its configuration and its state
+-- a session is stored as its fields
 abbrev pub coded_held : Coded Held
-coded_held = code_by (Config × State) (coded× coded_config coded_state) (λ h. (h.config, h.state)) (λ p. record { config = p.0; state = p.1 }) (λ _. refl)
+coded_held = code_by (Config × (Places × (ℕ × Option Pose))) (coded× coded_config (coded× coded_places (coded× coded_ℕ (coded_option coded_pose)))) (λ h. (h.config, (h.places, (h.frames, h.last)))) (λ p. record { config = p.0; places = p.1.0; frames = p.1.1.0; last = p.1.1.1 }) (λ _. refl)

@@ -1,5 +1,5 @@
 -- A map of the world: blocks by their keys, without bound, and how a frame is fused into it.
-use Rattle.std.specs.Prelude.{◌≡◌, IsTrue, ℕ, if◌then◌else◌, List, ◌++◌, map, unwrap_or}
+use Rattle.std.specs.Prelude.{ℕ, if◌then◌else◌, List, ◌++◌, map, unwrap_or}
 use Rattle.std.specs.FinMap.{FinMap, get, keys, contains_key, insert, from_entries}
 use Rattle.std.specs.List.{count_by}
 use Rattle.voxel_block.specs.declared.key.BlockKey.{BlockKey}
@@ -30,10 +30,6 @@ active_count f m = count_by (is_active f) (keys m)
 -- how many blocks of a map and of a frame's band, taken together and each once, are active for it
 abbrev pub need : BlockMap → Frame → ℕ
 need m f = active_count f (fuse m f)
-
--- every block of the old map is in the new one as it was
-pub record KeepsBlocks (old new : BlockMap) : Type 0 where
-  pub kept : (b : BlockKey) → IsTrue (contains_key old b) → get new b ≡ get old b
 
 -- ---- the two steps of a fusion, of which only its parts speak
 

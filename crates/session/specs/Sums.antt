@@ -1,7 +1,15 @@
 -- Sums over known voxels.
-use Rattle.std.specs.Prelude.{◌+◌, ◌*◌, ◌≤◌, pos, ◌+ℤ◌, unsigned_abs, Option, None, Some}
+use Rattle.std.specs.Prelude.{◌+◌, ◌*◌, ◌≤◌, pos, ◌+ℤ◌, unsigned_abs, Option, None, Some, List, []}
 use Rattle.scan_lang.specs.declared.reply.KnownVoxel.{KnownVoxel}
+use Rattle.voxel_block.specs.declared.key.BlockKey.{BlockKey}
+use Rattle.voxel_block.specs.declared.voxel.Voxel.{Voxel}
+use Rattle.session.specs.Fold.{known_in}
 use Rattle.session.specs.declared.totals.Sums.{Sums}
+
+-- the known voxels of a block, if there is one
+abbrev pub known_in_option : BlockKey → Option (List Voxel) → List KnownVoxel
+known_in_option b None = []
+known_in_option b (Some voxels) = known_in b voxels
 
 -- the sums over no voxel
 abbrev pub nothing : Sums

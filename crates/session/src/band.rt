@@ -5,38 +5,41 @@ ghost use Rattle.fixed_geom.specs.Vectors.{AreWithin};
 ghost use Rattle.session.specs.Bands.{band, pixel_blocks, row_blocks, segment_blocks, segment_end, segment_start};
 ghost use Rattle.camera.specs.Cameras.{HasRanges, deepest, ray as ray_of};
 ghost use Rattle.session.specs.Frames.{IsFrame};
-ghost use Rattle.session.specs.Maps.{KeepsBlocks, touched};
+ghost use Rattle.session.specs.Maps.{touched};
+ghost use Rattle.session.specs.Rooms.{KeepsSlots};
+ghost use Rattle.block_places.specs.Places.{blocks_of};
 
 use crate::frame::Frame;
-use crate::map::BlockMap;
 use crate::segment::touch_segment;
+use block_places::Places;
 use camera::CameraFields;
 use fixed_geom::Vec3;
-use std::alloc::{AllocError, Global};
+use std::alloc::Global;
+use voxel_block::NoMemory;
 
 /// Sees to it that the map has every block of the frame's truncation band.
 ///
 /// Where memory is wanting the map has some of them.
-pub fn touch_band(alloc: Global, map: &mut BlockMap, frame: &Frame) -> Result<(), AllocError>
+pub fn touch_band(alloc: Global, places: &mut Places, frame: &Frame) -> Result<(), NoMemory>
     requires { IsFrame frame.now }
-    ensures touched { OnOk result (map.new ≡ fold touched map.old (band frame.now)) }
-    ensures kept { KeepsBlocks map.old map.new }
+    ensures touched { OnOk result (blocks_of places.new ≡ fold touched (blocks_of places.old) (band frame.now)) }
+    ensures kept { KeepsSlots places.old places.new }
 {
     for v in 0..frame.depths.height() {
-        touch_row(alloc, map, frame, v)?;
+        touch_row(alloc, places, frame, v)?;
     }
     Ok(())
 }
 
 /// Touches the blocks of the pixels of row `v`.
-fn touch_row(alloc: Global, map: &mut BlockMap, frame: &Frame, v: u32) -> Result<(), AllocError>
+fn touch_row(alloc: Global, places: &mut Places, frame: &Frame, v: u32) -> Result<(), NoMemory>
     requires frame { IsFrame frame.now }
     requires row { v < frame.now.depths.height }
-    ensures touched { OnOk result (map.new ≡ fold touched map.old (row_blocks frame.now v)) }
-    ensures kept { KeepsBlocks map.old map.new }
+    ensures touched { OnOk result (blocks_of places.new ≡ fold touched (blocks_of places.old) (row_blocks frame.now v)) }
+    ensures kept { KeepsSlots places.old places.new }
 {
     for u in 0..frame.depths.width() {
-        touch_pixel(alloc, map, frame, u, v)?;
+        touch_pixel(alloc, places, frame, u, v)?;
     }
     Ok(())
 }
@@ -44,19 +47,19 @@ fn touch_row(alloc: Global, map: &mut BlockMap, frame: &Frame, v: u32) -> Result
 /// Touches the blocks of a pixel, none where it shows no valid depth.
 fn touch_pixel(
     alloc: Global,
-    map: &mut BlockMap,
+    places: &mut Places,
     frame: &Frame,
     u: u32,
     v: u32,
-) -> Result<(), AllocError>
+) -> Result<(), NoMemory>
     requires frame { IsFrame frame.now }
     requires column { u < frame.now.depths.width }
     requires row { v < frame.now.depths.height }
-    ensures touched { OnOk result (map.new ≡ fold touched map.old (pixel_blocks frame.now u v)) }
-    ensures kept { KeepsBlocks map.old map.new }
+    ensures touched { OnOk result (blocks_of places.new ≡ fold touched (blocks_of places.old) (pixel_blocks frame.now u v)) }
+    ensures kept { KeepsSlots places.old places.new }
 {
     match frame.camera.depth(frame.depths.at(u, v)) {
-        Some(d) => touch_round(alloc, map, frame, u, v, d),
+        Some(d) => touch_round(alloc, places, frame, u, v, d),
         None => Ok(()),
     }
 }
@@ -64,24 +67,24 @@ fn touch_pixel(
 /// Touches the blocks round the depth `d` that a pixel shows.
 fn touch_round(
     alloc: Global,
-    map: &mut BlockMap,
+    places: &mut Places,
     frame: &Frame,
     u: u32,
     v: u32,
     d: i64,
-) -> Result<(), AllocError>
+) -> Result<(), NoMemory>
     requires frame { IsFrame frame.now }
     requires column { u < frame.now.depths.width }
     requires row { v < frame.now.depths.height }
     requires near { pos 1 ≤ℤ d }
     requires far { d ≤ℤ frame.now.camera.far }
-    ensures touched { OnOk result (map.new ≡ fold touched map.old (segment_blocks frame.now.camera.voxel (segment_start frame.now u v d) (segment_end frame.now u v d))) }
-    ensures kept { KeepsBlocks map.old map.new }
+    ensures touched { OnOk result (blocks_of places.new ≡ fold touched (blocks_of places.old) (segment_blocks frame.now.camera.voxel (segment_start frame.now u v d) (segment_end frame.now u v d))) }
+    ensures kept { KeepsSlots places.old places.new }
 {
     let camera = frame.camera.fields();
     let start = world_point(frame, u, v, first_depth(&camera, d));
     let end = world_point(frame, u, v, last_depth(&camera, d));
-    touch_segment(alloc, map, camera.voxel, start, end)
+    touch_segment(alloc, places, camera.voxel, start, end)
 }
 
 /// Where the band of a depth begins: `mu` before it, but not behind the camera.

@@ -4,6 +4,7 @@ ghost use Rattle.session.specs.declared.error.ReadError.TheVariants.{NoMemory as
 
 use fixed_geom::BadPose;
 use std::alloc::AllocError;
+use voxel_block::NoMemory;
 
 /// Why a frame was not fused. After each of them the session is as before.
 #[derive(Clone, Copy, Debug, PartialEq, Eq)]
@@ -30,6 +31,14 @@ impl From<AllocError> for FrameError {
     ghost from_gives = { λ _ e. e ≡ no_memory };
 
     fn from(_: AllocError) -> Self {
+        FrameError::NoMemory
+    }
+}
+
+impl From<NoMemory> for FrameError {
+    ghost from_gives = { λ _ e. e ≡ no_memory };
+
+    fn from(_: NoMemory) -> Self {
         FrameError::NoMemory
     }
 }

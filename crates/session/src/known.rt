@@ -1,20 +1,36 @@
-ghost use Rattle.std.specs.Prelude.{◌≡◌, ◌<◌, ◌++◌, pos, ◌+ℤ◌, ◌*ℤ◌, IfOk, OnOk, option_to_list};
+ghost use Rattle.std.specs.Prelude.{◌≡◌, ◌<◌, ◌++◌, pos, ◌+ℤ◌, ◌*ℤ◌, IfOk, OnOk, option_to_list, option_map};
+ghost use Rattle.block_places.specs.Places.{blocks_of};
 ghost use Rattle.session.specs.Fold.{known_at as known_at_of, known_in, known_voxels as known_voxels_of};
+ghost use Rattle.session.specs.Sums.{known_in_option};
 
-use crate::map::BlockMap;
+use block_places::Places;
 use scan_lang::KnownVoxel;
 use std::alloc::{AllocError, Global};
 use voxel_block::{Block, BlockKey, Voxel};
 
 /// All known voxels of a map, in the order of keys and indices.
-pub fn known_voxels(alloc: Global, map: &BlockMap) -> Result<Vec<KnownVoxel>, AllocError>
-    ensures { IfOk result (λ v. v.items ≡ known_voxels_of map.now) }
+pub fn known_voxels(alloc: Global, places: &Places) -> Result<Vec<KnownVoxel>, AllocError>
+    ensures { IfOk result (λ v. v.items ≡ known_voxels_of (blocks_of places.now)) }
 {
     let mut known = Vec::new(alloc);
-    for (key, block) in map.iter() {
-        push_block(&mut known, *key, block)?;
+    for key in places.keys() {
+        push_found(&mut known, *key, places.lend(*key))?;
     }
     Ok(known)
+}
+
+/// Puts the known voxels of a block behind those of the list, if there is one.
+fn push_found(
+    known: &mut Vec<KnownVoxel>,
+    key: BlockKey,
+    block: Option<&Block>,
+) -> Result<(), AllocError>
+    ensures { OnOk result (known.new.items ≡ known.old.items ++ known_in_option key (option_map (λ b. b.now) block.entry)) }
+{
+    match block {
+        Some(block) => push_block(known, key, block),
+        None => Ok(()),
+    }
 }
 
 /// Puts the known voxels of a block behind those of the list.

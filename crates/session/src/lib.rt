@@ -7,11 +7,12 @@ mod frame;
 mod kernel;
 mod known;
 mod laws;
-mod map;
+mod moving;
 mod room;
 mod segment;
 mod session;
 mod totals;
+mod updating;
 
 pub use error::{FrameError, ReadError};
 pub use laws::{band_fits, band_is_a_set};

@@ -4,36 +4,38 @@ ghost use Rattle.fixed_geom.specs.Division.{floor_div};
 ghost use Rattle.fixed_geom.specs.Vectors.{AreWithin, IsWithin};
 ghost use Rattle.session.specs.Bands.{segment_point, segment_blocks, spread as spread_of, steps_of};
 ghost use Rattle.camera.specs.Grid.{block_at as block_at_of};
-ghost use Rattle.session.specs.Maps.{KeepsBlocks, touched};
+ghost use Rattle.session.specs.Maps.{touched};
+ghost use Rattle.session.specs.Rooms.{KeepsSlots};
+ghost use Rattle.block_places.specs.Places.{blocks_of};
 
-use crate::map::BlockMap;
+use block_places::Places;
 use fixed_geom::Vec3;
-use std::alloc::{AllocError, Global};
-use voxel_block::BlockKey;
+use std::alloc::Global;
+use voxel_block::{BlockKey, NoMemory};
 
 /// Touches the blocks of the samples of the segment between two world points.
 ///
 /// The points are in micrometres and within 151 metres of the origin on each axis. A voxel has the size `voxel`.
 pub fn touch_segment(
     alloc: Global,
-    map: &mut BlockMap,
+    places: &mut Places,
     voxel: i64,
     start: Vec3,
     end: Vec3,
-) -> Result<(), AllocError>
+) -> Result<(), NoMemory>
     requires voxel { pos 1000 ≤ℤ voxel }
     requires voxel_high { voxel ≤ℤ pos 100000 }
     requires start { AreWithin (pos 151006226) start }
     requires end { AreWithin (pos 151006226) end }
-    ensures touched { OnOk result (map.new ≡ fold touched map.old (segment_blocks voxel start end)) }
-    ensures kept { KeepsBlocks map.old map.new }
+    ensures touched { OnOk result (blocks_of places.new ≡ fold touched (blocks_of places.old) (segment_blocks voxel start end)) }
+    ensures kept { KeepsSlots places.old places.new }
 {
     let n = steps(voxel, start, end);
     let mut last = block_at(voxel, sample(start, end, n, 0));
-    map.touch(alloc, last)?;
+    places.touch(alloc, last)?;
     for j in 1..n + 1 {
         let key = block_at(voxel, sample(start, end, n, j));
-        touch_next(alloc, map, last, key)?;
+        touch_next(alloc, places, last, key)?;
         last = key;
     }
     Ok(())
@@ -42,18 +44,18 @@ pub fn touch_segment(
 /// Touches a block that is often the one touched before it, `last`.
 fn touch_next(
     alloc: Global,
-    map: &mut BlockMap,
+    places: &mut Places,
     last: BlockKey,
     key: BlockKey,
-) -> Result<(), AllocError>
-    requires { IsTrue (contains_key map.old last) }
-    ensures touched { OnOk result (map.new ≡ touched map.old key) }
-    ensures kept { KeepsBlocks map.old map.new }
+) -> Result<(), NoMemory>
+    requires { IsTrue (contains_key (blocks_of places.old) last) }
+    ensures touched { OnOk result (blocks_of places.new ≡ touched (blocks_of places.old) key) }
+    ensures kept { KeepsSlots places.old places.new }
 {
     if key == last {
         return Ok(());
     }
-    map.touch(alloc, key)
+    places.touch(alloc, key)
 }
 
 /// How many steps the samples of a segment take.

@@ -4,7 +4,17 @@ ghost use Rattle.std.specs.FinMap.{len};
 ghost use Rattle.fixed_geom.specs.PoseTest.{accepted, pose_of};
 ghost use Rattle.scan_lang.specs.Config.{IsConfig};
 ghost use Rattle.scan_lang.specs.declared.entry.Entry.TheVariants as entries;
-ghost use Rattle.session.specs.Answers.{AnswersFrame, offered as offered_of};
+ghost use Rattle.std.specs.Prelude.{◌*◌, ◌&&◌, length};
+ghost use Rattle.spatial_hash.specs.Contents.{contents};
+ghost use Rattle.voxel_block.specs.declared.key.BlockKey.{BlockKey as Key};
+ghost use Rattle.session.specs.Frames.{is_active};
+ghost use Rattle.std.specs.FinMap.{contains_key, empty};
+ghost use Rattle.spatial_hash.specs.Table.{empty as empty_table};
+ghost use Rattle.block_heap.specs.Cells.{new_cells};
+ghost use Rattle.block_places.specs.Places.{IsPlaced, blocks_of};
+ghost use Rattle.session.specs.Rooms.{IsPlan};
+ghost use Rattle.session.specs.Standing.{Stands};
+ghost use Rattle.session.specs.Answers.{AnswersFrame, state_of, offered as offered_of};
 ghost use Rattle.session.specs.Fold.{start as first_state, after, at_most_u64, has_size as has_size_of, known_voxels as known_voxels_of, totals_of};
 ghost use Rattle.session.specs.Frames.{IsFrame, frame_of as frame_by};
 ghost use Rattle.session.specs.Maps.{all_updated};
@@ -12,9 +22,11 @@ ghost use Rattle.session.specs.Maps.{all_updated};
 use crate::error::{FrameError, ReadError};
 use crate::frame::Frame;
 use crate::known::known_voxels;
-use crate::map::BlockMap;
-use crate::room::make_room;
+use crate::moving::move_blocks;
+use crate::room::{Plan, make_room};
 use crate::totals::totals;
+use crate::updating::update_all;
+use block_places::Places;
 use depth_frame::DepthFrame;
 use fixed_geom::{BadPose, Pose, PoseRows};
 use scan_lang::{Config, FrameDone, KnownVoxel, Totals};
@@ -26,7 +38,7 @@ use voxel_block::NoMemory;
 #[derive(Drop)]
 pub struct Session {
     config: Config,
-    blocks: BlockMap,
+    places: Places,
     frames: u64,
     last: Option<Pose>,
 }
@@ -34,22 +46,30 @@ pub struct Session {
 impl Model for Session {
     ghost use Rattle.session.specs.Codes.{coded_held};
     ghost use Rattle.session.specs.Answers.{Held};
+    ghost use Rattle.session.specs.Held.{held};
+    ghost use Rattle.session.specs.Standing.{IsSettled};
 
     ghost Value = { Held };
 
     ghost coded = { coded_held };
 
-    ghost view = { λ s. record { config = s.config; state = record { blocks = s.blocks; frames = s.frames; last = s.last } } };
+    ghost view = { held };
+
+    ghost invariant = { λ s. IsSettled (held s) };
 }
 
 impl Session {
     /// The empty map, before the first frame.
     pub fn start(alloc: Global, config: Config) -> Result<Session, NoMemory>
-        ensures { IfOk result (λ s. s ≡ record { config = config; state = first_state }) }
+        ensures config { IfOk result (λ s. s.config ≡ config) }
+        ensures state { IfOk result (λ s. state_of s ≡ first_state) }
+        ensures places { IfOk result (λ s. s.places ≡ record { slots = empty; table = empty_table config.buckets (2 * config.heap_blocks + 65); heap = new_cells config.heap_blocks }) }
+        ensures stands { IfOk result Stands }
     {
+        let places = Places::make(alloc, config.heap_blocks(), config.buckets())?;
         Ok(Session {
             config,
-            blocks: BlockMap::new(alloc),
+            places,
             frames: 0,
             last: None,
         })
@@ -63,57 +83,68 @@ impl Session {
         rows: &PoseRows,
         depths: DepthFrame,
     ) -> Result<FrameDone, FrameError>
-        ensures answer { AnswersFrame self.old.config self.old.state rows.now depths result }
-        ensures state { OnOk result (self.new ≡ record { config = self.old.config; state = after self.old.config self.old.state (entries.Frame rows.now depths) }) }
+        ensures answer { AnswersFrame self.old.config (state_of self.old) rows.now depths result }
+        ensures state { OnOk result (state_of self.new ≡ after self.old.config (state_of self.old) (entries.Frame rows.now depths)) }
+        ensures config { self.new.config ≡ self.old.config }
+        ensures stands { Stands self.new }
         ensures kept { OnErr result (self.new ≡ self.old) }
         ensures size { has_size_of self.old.config depths ≡ false → result ≡ Err (FrameError.Size depths.width depths.height) }
         ensures pose { has_size_of self.old.config depths ≡ true → (why : BadPose) → accepted (pose_of rows.now) ≡ Err why → result ≡ Err (FrameError.BadPose why) }
     {
         let frame = offered(&self.config, rows, depths)?;
         let limit = self.config.heap_blocks();
-        let resident = make_room(alloc, &mut self.blocks, &frame, limit)?;
-        Ok(self.fuse(&frame, resident))
-    }
-
-    /// Updates every block by a frame whose blocks have found room, and counts the frame.
-    fn fuse(&mut self, frame: &Frame, resident: u32) -> FrameDone
-        requires { IsFrame frame.now }
-        ensures state { self.new ≡ record { config = self.old.config; state = record { blocks = all_updated frame.now self.old.state.blocks; frames = at_most_u64 (self.old.state.frames + 1); last = Some frame.now.pose } } }
-        ensures done { result ≡ record { frame = self.new.state.frames; blocks = len self.new.state.blocks; resident = resident } }
-    {
-        self.blocks.update_all(frame);
+        let plan = make_room(alloc, &mut self.places, &frame, limit)?;
+        let resident = plan.resident;
+        fuse(&mut self.places, &frame, plan);
         self.frames = self.frames.saturating_add(1);
         self.last = Some(frame.pose);
-        FrameDone {
+        Ok(FrameDone {
             frame: self.frames,
-            blocks: self.blocks.len() as u64,
+            blocks: self.places.len() as u64,
             resident,
-        }
+        })
     }
 
     /// The number of blocks, and all known voxels in the order of keys and indices.
     pub fn voxels(&mut self, alloc: Global) -> Result<(u64, Vec<KnownVoxel>), ReadError>
-        ensures blocks { IfOk result (λ p. p.0 ≡ len self.old.state.blocks) }
-        ensures known { IfOk result (λ p. p.1.items ≡ known_voxels_of self.old.state.blocks) }
+        ensures blocks { IfOk result (λ p. p.0 ≡ len (state_of self.old).blocks) }
+        ensures known { IfOk result (λ p. p.1.items ≡ known_voxels_of (state_of self.old).blocks) }
         ensures kept { self.new ≡ self.old }
+        ensures stands { Stands self.new }
     {
-        let known = known_voxels(alloc, &self.blocks)?;
-        Ok((self.blocks.len() as u64, known))
+        let known = known_voxels(alloc, &self.places)?;
+        Ok((self.places.len() as u64, known))
     }
 
     /// Totals over the map.
     pub fn totals(&mut self) -> Result<Totals, ReadError>
-        ensures value { IfOk result (λ t. t ≡ totals_of self.old.state.blocks) }
+        ensures value { IfOk result (λ t. t ≡ totals_of (state_of self.old).blocks) }
         ensures kept { self.new ≡ self.old }
+        ensures stands { Stands self.new }
     {
-        Ok(totals(&self.blocks))
+        Ok(totals(&self.places))
     }
+}
+
+/// Moves the blocks of a map to where the frame has them, and updates each.
+fn fuse(places: &mut Places, frame: &Frame, plan: Plan)
+    requires frame { IsFrame frame.now }
+    requires plan { IsPlan frame.now places.old plan }
+    ensures updated { blocks_of places.new ≡ all_updated frame.now (blocks_of places.old) }
+    ensures active { (b : Key) → contains_key (contents places.new.table) b ≡ (contains_key (blocks_of places.new) b && is_active frame.now b) }
+    ensures stays { IsPlaced places.new }
+    ensures cells { length places.new.heap.cells ≡ length places.old.heap.cells }
+{
+    let mut spares = plan.spares;
+    move_blocks(places, frame, &plan.keys, &mut spares);
+    update_all(places, frame, &plan.keys);
 }
 
 /// The frame of rows and a depth map, before its room is judged.
 fn offered(config: &Config, rows: &PoseRows, depths: DepthFrame) -> Result<Frame, FrameError>
     ensures value { result ≡ offered_of config.now rows.now depths }
     ensures frame { IfOk result IsFrame }
+    ensures camera { IfOk result (λ f. f.camera ≡ config.now.camera) }
 {
     if !has_size(config, &depths) {
         return Err(FrameError::Size {

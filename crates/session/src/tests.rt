@@ -128,3 +128,30 @@ fn frames_are_fused_or_refused(rt: HostRuntime) {
         }
     }
 }
+
+// The heap has room for two blocks, which leave it for others and come back.
+#[test]
+fn blocks_leave_the_heap_and_come_back(rt: HostRuntime) {
+    let alloc = rt.alloc();
+    let session = session(alloc, 2);
+    assert!(rt; session.is_some());
+    if let Some(mut session) = session {
+        for (x, answer) in [
+            (0, done(1, 2, 2)),
+            (50000000, done(2, 4, 2)),
+            (0, done(3, 4, 2)),
+        ] {
+            let fused = fuse(alloc, &mut session, (AHEAD, x, 1, 1000));
+            assert_eq!(rt; fused, Some(answer));
+        }
+        assert_eq!(rt;
+            session.totals(),
+            Ok(Totals {
+                blocks: 4,
+                known: 1152,
+                weight: 1728,
+                distance: -384
+            })
+        );
+    }
+}

@@ -1,9 +1,10 @@
-ghost use Rattle.std.specs.Prelude.{◌≡◌, ◌<◌, ◌≤◌, ◌+◌, ◌^◌, fold};
+ghost use Rattle.std.specs.Prelude.{◌≡◌, ◌<◌, ◌≤◌, ◌+◌, ◌^◌, fold, option_map};
+ghost use Rattle.block_places.specs.Places.{blocks_of};
 ghost use Rattle.session.specs.Fold.{at_most_u64 as at_most_u64_of, known_in, known_voxels, totals_of, within_i64 as within_i64_of};
-ghost use Rattle.session.specs.Sums.{IsSum, nothing, added, added_if};
+ghost use Rattle.session.specs.Sums.{IsSum, known_in_option, nothing, added, added_if};
 
 use crate::known::known_at;
-use crate::map::BlockMap;
+use block_places::Places;
 use scan_lang::{KnownVoxel, Totals};
 use voxel_block::{Block, BlockKey};
 
@@ -16,12 +17,12 @@ pub struct Sums {
 }
 
 /// Totals over a map.
-pub fn totals(map: &BlockMap) -> Totals
-    ensures { result ≡ totals_of map.now }
+pub fn totals(places: &Places) -> Totals
+    ensures { result ≡ totals_of (blocks_of places.now) }
 {
-    let sums = sums_over(map);
+    let sums = sums_over(places);
     Totals {
-        blocks: map.len() as u64,
+        blocks: places.len() as u64,
         known: at_most_u64(sums.known),
         weight: at_most_u64(sums.weight),
         distance: within_i64(sums.distance),
@@ -29,18 +30,32 @@ pub fn totals(map: &BlockMap) -> Totals
 }
 
 /// The sums over all known voxels of a map.
-fn sums_over(map: &BlockMap) -> Sums
-    ensures { result ≡ fold added nothing (known_voxels map.now) }
+fn sums_over(places: &Places) -> Sums
+    ensures { result ≡ fold added nothing (known_voxels (blocks_of places.now)) }
 {
     let mut sums = Sums {
         known: 0,
         weight: 0,
         distance: 0,
     };
-    for (key, block) in map.iter() {
-        sums = with_block(sums, *key, block);
+    for key in places.keys() {
+        sums = with_found(sums, *key, places.lend(*key));
     }
     sums
+}
+
+/// The sums with the known voxels of a block, if there is one.
+fn with_found(sums: Sums, key: BlockKey, block: Option<&Block>) -> Sums
+    requires sum { IsSum sums }
+    requires few { sums.known < 2 ^ 79 }
+    ensures value { result ≡ fold added sums (known_in_option key (option_map (λ b. b.now) block.entry)) }
+    ensures sum { IsSum result }
+    ensures few { result.known ≤ sums.known + 512 }
+{
+    match block {
+        Some(block) => with_block(sums, key, block),
+        None => sums,
+    }
 }
 
 /// The sums with the known voxels of a block.

@@ -3,7 +3,7 @@ ghost use Rattle.session.specs.Frames.{IsFrame};
 
 use crate::band::touch_band;
 use crate::frame::Frame;
-use crate::map::BlockMap;
+use block_places::Places;
 use camera::{Camera, CameraFields};
 use depth_frame::DepthFrame;
 use fixed_geom::{Pose, PoseRows, Vec3};
@@ -84,13 +84,13 @@ fn count(alloc: Global, frame: Option<Frame>, expected: &[i16]) -> Option<(usize
     requires { IfSome frame IsFrame }
 {
     let frame = frame?;
-    let mut map = BlockMap::new(alloc);
-    touch_band(alloc, &mut map, &frame).ok()?;
-    let found = map.len();
+    let mut places = Places::make(alloc, 1, 1).ok()?;
+    touch_band(alloc, &mut places, &frame).ok()?;
+    let found = places.len();
     for z in expected {
-        map.touch(alloc, BlockKey { x: 0, y: 0, z: *z }).ok()?;
+        places.touch(alloc, BlockKey { x: 0, y: 0, z: *z }).ok()?;
     }
-    Some((found, map.len()))
+    Some((found, places.len()))
 }
 
 #[test]

@@ -10,6 +10,7 @@ use Rattle.fixed_geom.specs.Poses.{world}
 use Rattle.session.specs.Bands.{segment_blocks, segment_start, segment_end}
 use Rattle.camera.specs.Cameras.{ray}
 use Rattle.session.specs.Maps.{touched}
+use Rattle.block_places.specs.Places.{blocks_of}
 use Rattle.session.proofs.band.touch_round.Goals as goal
 
 pub returns-clause-touched : goal.returns-clause-touched
@@ -27,4 +28,4 @@ returns-clause-touched c =
     c.world_point-start.ensures.value ∙ ap at (to_z-of_z w64 c.first_depth.result (record { sfits = c.first_depth.type_inv }) ∙ c.first_depth.ensures.value ∙ ap (λ (q : CameraFields). int_max (pos 1) (to_z w64 (of_z w64 d) -ℤ q.mu)) is ∙ ap (λ z. int_max (pos 1) (z -ℤ k.mu)) depth) in
     let end : c.world_point-end.result ≡ segment_end f u v d =
     c.world_point-end.ensures.value ∙ ap at (to_z-of_z w64 c.last_depth.result (record { sfits = c.last_depth.type_inv }) ∙ c.last_depth.ensures.value ∙ ap (λ (q : CameraFields). to_z w64 (of_z w64 d) +ℤ q.mu) is ∙ ap (λ z. z +ℤ k.mu) depth) in
-    subst (λ xs. OnOk c.touch_segment.result (c.touch_segment.new.map ≡ fold touched c.args.map.now xs)) (λ i. segment_blocks (size i) (start i) (end i)) c.touch_segment.ensures.touched
+    subst (λ xs. OnOk c.touch_segment.result (blocks_of c.touch_segment.new.places ≡ fold touched (blocks_of c.args.places.now) xs)) (λ i. segment_blocks (size i) (start i) (end i)) c.touch_segment.ensures.touched

@@ -7,6 +7,7 @@ use mir.Syntax.{w64, w128}
 use Rattle.scan_lang.specs.declared.reply.KnownVoxel.{KnownVoxel}
 use Rattle.session.specs.declared.totals.Sums.{Sums}
 use Rattle.session.specs.Fold.{at_most_u64, within_i64, known_voxels}
+use Rattle.block_places.specs.Places.{blocks_of}
 use Rattle.session.specs.Sums.{nothing}
 use Rattle.session.proofs.SumLemmas.{known_of, weight_of, distance_of}
 use Rattle.session.proofs.totals.totals.Goals as goal
@@ -16,7 +17,7 @@ small n k e h = omega arith
 
 pub returns : goal.returns
 returns c =
-    let m = c.args.map.now in
+    let m = blocks_of c.args.places.now in
     let ks = known_voxels m in
     let is = c.sums_over-sums.ensures in
     let blocks : c.len.result < 2 ^ 64 = search rules in
@@ -25,4 +26,4 @@ returns c =
     let known = c.at_most_u64.ensures ∙ ap at_most_u64 (ap (λ (s : Sums). s.known) is ∙ known_of nothing ks ∙ zero-add (length ks)) in
     let weight = c.at_most_u64-2.ensures ∙ ap at_most_u64 (ap (λ (s : Sums). s.weight) is ∙ weight_of nothing ks ∙ zero-add (sum_by (λ (v : KnownVoxel). v.w) ks)) in
     let distance = to_z-of_z w64 c.within_i64.result fits ∙ c.within_i64.ensures ∙ ap within_i64 (to_z-of_z w128 c.sums_over-sums.result.distance wide ∙ ap (λ (s : Sums). s.distance) is ∙ distance_of nothing ks) in
-    λ i. record { blocks = small c.len.result (len m) c.len.ensures blocks i; known = known i; weight = weight i; distance = distance i }
+    λ i. record { blocks = small c.len.result (len m) c.len.ensures.blocks blocks i; known = known i; weight = weight i; distance = distance i }

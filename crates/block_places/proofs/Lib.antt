@@ -1,0 +1,9 @@
+pub mod Blocks
+pub mod Keeping
+pub mod Keyed
+pub mod Moves
+pub mod NewPlaces
+pub mod Owning
+pub mod Rewriting
+pub mod Trees
+pub mod Ways

@@ -1,0 +1,5 @@
+pub mod Codes
+pub mod Lending
+pub mod Owners
+pub mod Places
+pub mod Seen

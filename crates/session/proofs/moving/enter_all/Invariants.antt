@@ -1,0 +1,6 @@
+use Rattle.std.proofs.Common.{drop}
+use Rattle.session.proofs.MovingLemmas.{Entering}
+use Rattle.session.proofs.moving.enter_all.Given as goal
+
+abbrev pub invariant-loop-key : goal.invariant-loop-key
+invariant-loop-key l = Entering l.frame l.fn.places l.places (drop l.key-index l.keys)

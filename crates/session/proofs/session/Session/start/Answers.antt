@@ -1,0 +1,22 @@
+use Rattle.std.proofs.Common.{◌≡◌, ℕ, length, sym, ap, subst, ◌∙◌}
+use Rattle.std.proofs.lemmas.List.{length-replicate}
+use Rattle.block_heap.specs.declared.cell.Cell.TheVariants.{Free}
+use Rattle.voxel_block.specs.Blocks.{new_block}
+use Rattle.block_places.specs.Places.{Places}
+use Rattle.session.specs.Held.{held}
+use Rattle.session.specs.Standing.{IsSettled}
+use Rattle.std.specs.Int.{IsPowerOfTwo}
+use Rattle.session.proofs.Powers.{is_power}
+use Rattle.session.proofs.StandingLemmas.{settled_start, stands}
+use Rattle.session.proofs.session.Session.start.Goals as goal
+
+pub invariant_of-result : goal.invariant_of-result
+invariant_of-result c =
+    settled_start c.args.config c.in_ok-places.places c.in_ok-places.ensures.placed c.in_ok-places.ensures.blocks
+    (ap (λ (p : Places). length p.heap.cells) c.in_ok-places.ensures.value ∙ length-replicate c.heap_blocks.result (Free new_block) ∙ c.heap_blocks.ensures.value)
+
+pub returns-clause-stands : goal.returns-clause-stands
+returns-clause-stands c = stands _ (invariant_of-result c)
+
+pub make-requires-clause-power : goal.make-requires-clause-power
+make-requires-clause-power c = subst IsPowerOfTwo (sym c.buckets.ensures.value) (is_power c.args.config.buckets c.buckets.ensures.config.buckets_power)

@@ -1,0 +1,14 @@
+use Rattle.std.proofs.Common.{◌≡◌, ◌&&◌, sym, ap, ◌∙◌}
+use Rattle.std.specs.FinMap.{contains_key}
+use Rattle.spatial_hash.specs.Contents.{contents}
+use Rattle.block_places.specs.Places.{blocks_of}
+use Rattle.session.specs.Frames.{is_active}
+use Rattle.session.specs.Maps.{BlockMap}
+use Rattle.session.proofs.UpdatingLemmas.{has_updated}
+use Rattle.session.proofs.session.fuse.Goals as goal
+
+pub returns-clause-active : goal.returns-clause-active
+returns-clause-active c = λ b.
+    let f = c.args.frame.now in
+    ap (λ t. contains_key (contents t) b) c.update_all.ensures.stays.table ∙ c.move_blocks.ensures.active b
+    ∙ ap (λ x. x && is_active f b) (sym (ap (λ (m : BlockMap). contains_key m b) c.update_all.ensures.updated ∙ has_updated f (blocks_of c.move_blocks.new.places) b))

@@ -1,0 +1,52 @@
+-- Where the blocks of a session lie between its calls.
+use Rattle.std.specs.Prelude.{◌≡◌, ◌↔◌, ◌&&◌, ℕ, Bool, true, false, IsTrue, List, length, Option, Some, None, ◌⊎◌}
+use Rattle.std.specs.FinMap.{get, contains_key}
+use Rattle.fixed_geom.specs.Poses.{Pose}
+use Rattle.voxel_block.specs.declared.key.BlockKey.{BlockKey}
+use Rattle.voxel_block.specs.declared.voxel.Voxel.{Voxel}
+use Rattle.camera.specs.declared.camera.CameraFields.{CameraFields}
+use Rattle.camera.specs.Cameras.{is_active}
+use Rattle.spatial_hash.specs.Contents.{contents}
+use Rattle.block_places.specs.Owners.{owner_at}
+use Rattle.block_places.specs.Places.{Places, IsPlaced, blocks_of, cell_of}
+use Rattle.session.specs.Answers.{Held}
+
+-- whether a block is active for the last frame; none is where there is no last frame
+abbrev pub is_active_last : CameraFields → Option Pose → BlockKey → Bool
+is_active_last k None b = false
+is_active_last k (Some pose) b = is_active k pose b
+
+-- the block of a key lies in its slot, and in no cell
+pub record IsStored (p : Places) (b : BlockKey) : Type 0 where
+  pub slot : (v : List Voxel) × (get p.slots b ≡ Some (Some v))
+  pub no_cell : (n : ℕ) (v : List Voxel) → owner_at p.heap n ≡ Some (b, v) → ⊥
+
+-- it lies in exactly one cell, and its slot is empty
+pub record IsAway (p : Places) (b : BlockKey) : Type 0 where
+  pub slot : get p.slots b ≡ Some None
+  pub cell : (n : ℕ) × (v : List Voxel) × (owner_at p.heap n ≡ Some (b, v))
+  pub only : (m n : ℕ) (v w : List Voxel) → owner_at p.heap m ≡ Some (b, v) → owner_at p.heap n ≡ Some (b, w) → m ≡ n
+
+-- what holds of a session between its calls
+pub record Stands (h : Held) : Type 0 where
+  -- the block of each key of the map lies in just one place
+  pub one_place : (b : BlockKey) → IsTrue (contains_key (blocks_of h.places) b) → IsStored h.places b ⊎ IsAway h.places b
+  -- every slot is for a key of the map, and so is every owned cell
+  pub slots : (b : BlockKey) → IsTrue (contains_key h.places.slots b) → IsTrue (contains_key (blocks_of h.places) b)
+  pub owners : (b : BlockKey) (n : ℕ) (v : List Voxel) → owner_at h.places.heap n ≡ Some (b, v) → IsTrue (contains_key (blocks_of h.places) b)
+  -- what lies in a slot or a cell is what the map has at its key
+  pub in_slot : (b : BlockKey) (v : List Voxel) → get h.places.slots b ≡ Some (Some v) → get (blocks_of h.places) b ≡ Some v
+  pub in_cell : (b : BlockKey) (n : ℕ) (v : List Voxel) → owner_at h.places.heap n ≡ Some (b, v) → get (blocks_of h.places) b ≡ Some v
+  -- the keys in the heap are the keys of the map that are active for the last frame
+  pub active : (b : BlockKey) → contains_key (contents h.places.table) b ≡ (contains_key (blocks_of h.places) b && is_active_last h.config.camera h.last b)
+  -- the hash names each key's cell: a cell that it names for a key is the key's, and it names each owned cell
+  pub found : (b : BlockKey) (n : ℕ) → cell_of h.places.table b ≡ Some n → (v : List Voxel) × (owner_at h.places.heap n ≡ Some (b, v))
+  pub named : (b : BlockKey) (n : ℕ) (v : List Voxel) → owner_at h.places.heap n ≡ Some (b, v) → cell_of h.places.table b ≡ Some n
+  -- the heap has as many cells as the configuration says
+  pub cells : length h.places.heap.cells ≡ h.config.heap_blocks
+
+-- what the session's type keeps, of which the rest follows
+pub record IsSettled (h : Held) : Type 0 where
+  pub placed : IsPlaced h.places
+  pub active : (b : BlockKey) → contains_key (contents h.places.table) b ≡ (contains_key (blocks_of h.places) b && is_active_last h.config.camera h.last b)
+  pub cells : length h.places.heap.cells ≡ h.config.heap_blocks
