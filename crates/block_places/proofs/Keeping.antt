@@ -1,6 +1,6 @@
 -- Slots of which those are kept whose keys pass a test.
 use Rattle.std.proofs.Common.{◌≡◌, Bool, true, false, cond, List, [], ◌∷◌, refl, sym, subst, ap, ◌∙◌}
-use Rattle.std.specs.Prelude.{Option, Some, None, IsTrue, ◌↔◌}
+use Rattle.std.specs.Prelude.{Option, Some, None, IsTrue}
 use Rattle.std.specs.FinMap.{contains_key, get, retain_keys, find, from_entries, get-from_entries, get-retain_keys, same_map}
 use Rattle.std.specs.FinMap.Entries.{where_key, find-where_key}
 use Rattle.std.specs.Map.Calls.{RetainsPairs}

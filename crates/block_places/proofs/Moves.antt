@@ -83,6 +83,10 @@ touched_new p k e = ap (λ b. cond b p (with_slots p (insert p.slots k (Some new
 pub touched_again : (p : Places) (k : BlockKey) → contains_key p.slots k ≡ true → p ≡ touched p k
 touched_again p k e = ap (λ b. cond b p (with_slots p (insert p.slots k (Some new_block)))) (sym e)
 
+-- a key that is away has a slot
+pub away_is_known : (p : Places) (k : BlockKey) → IsPlaced p → IsTrue (contains_key (contents p.table) k) → contains_key p.slots k ≡ true
+away_is_known p k placed away = ap is_some ((placed.away k).1 away)
+
 pub blocks_touched : (p : Places) (k : BlockKey) → blocks_of (touched p k) ≡ cond (contains_key (blocks_of p) k) (blocks_of p) (insert (blocks_of p) k new_block)
 blocks_touched p k =
     elim (contains_key p.slots k) as (λ b. contains_key p.slots k ≡ b → blocks_of (cond b p (with_slots p (insert p.slots k (Some new_block)))) ≡ cond (contains_key (blocks_of p) k) (blocks_of p) (insert (blocks_of p) k new_block)) [

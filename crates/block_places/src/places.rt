@@ -143,6 +143,9 @@ impl Places {
         ensures blocks { OnOk result (blocks_of self.new ≡ (if contains_key (blocks_of self.old) key then blocks_of self.old else insert (blocks_of self.old) key new_block)) }
         ensures placed { IsPlaced self.new }
     {
+        if self.is_away(key) {
+            return Ok(());
+        }
         if !self.slots.contains_key(&key) {
             let block = Block::make(alloc)?;
             if self.slots.insert(key, Some(block)).is_err() {

@@ -113,6 +113,8 @@ fn known_keys_are_in_order_until_they_are_forgotten(rt: HostRuntime) -> Result<(
         assert_eq!(rt; *key, along_x(x));
     }
     assert!(rt; bring(&mut places, along_x(1)));
+    places.touch(rt.alloc(), along_x(1))?;
+    assert!(rt; places.is_away(along_x(1)));
     assert!(rt; !drop_stored(&mut places, along_x(1)));
     assert!(rt; drop_stored(&mut places, along_x(2)));
     assert!(rt; !places.contains(along_x(2)));

@@ -2,8 +2,6 @@
 use Rattle.std.proofs.Common.{◌≡◌, T, Bool, true, false, cond, ◌&&◌, ◌||◌, List, [], ◌∷◌, ◌++◌, map, refl, sym, ap, subst, ◌∙◌}
 use Rattle.std.specs.Prelude.{Option, Some, None, is_some, unwrap_or}
 use Rattle.std.specs.List.{list_any, fold, count_by}
-use Rattle.std.specs.BTreeMap.{is_at}
-use Rattle.std.specs.Map.{lookup}
 use Rattle.std.specs.FinMap.{FinMap, get, keys, entries, entries_sorted, contains_key, insert, from_entries, is_sorted, same_map, get-insert, get-from_entries, get-from_sorted, entries-from_sorted, contains_key-keys}
 use Rattle.std.specs.FinMap.Entries.{below_all}
 use Rattle.std.specs.Ordering.{is_lt}
@@ -12,13 +10,13 @@ use Rattle.voxel_block.specs.declared.key.BlockKey.{BlockKey}
 use Rattle.voxel_block.specs.declared.voxel.Voxel.{Voxel}
 use Rattle.voxel_block.specs.Blocks.{new_block}
 use Rattle.voxel_block.specs.Keys.{key_cmp}
-use Rattle.voxel_block.proofs.KeyLaws.{exact_keys, keys_total, get_key, one_put}
+use Rattle.voxel_block.proofs.KeyLaws.{exact_keys, keys_total}
 use Rattle.session.specs.declared.frame.Frame.{Frame}
-use Rattle.session.specs.Bands.{band}
-use Rattle.session.specs.Frames.{is_active}
+use Rattle.fuse_kernel.specs.Updates.{updated}
+use Rattle.band_walk.specs.Bands.{band}
+use Rattle.session.specs.Frames.{is_active, view}
 use Rattle.session.specs.Maps.{BlockMap, voxels_at, fuse, need, active_count, touched, all_updated}
-use Rattle.session.specs.Updates.{updated}
-use Rattle.session.proofs.MapLemmas.{same_key, same_key_is, pairs_of, same_pairs, each_changed}
+use Rattle.session.proofs.MapLemmas.{same_key, same_key_is, pairs_of, same_pairs}
 
 or_false : (b : Bool) → b ≡ (b || false)
 or_false true = refl
@@ -85,13 +83,13 @@ keys_all m ks q = sym (contains_key-keys (fold touched m ks) q) ∙ has_all m ks
     ∙ sym (list_any-append (same_key q) (keys m) ks)
 
 -- to touch blocks and then to update all: the map has its own blocks and these, and each is updated
-pub all_updated-touched : (f : Frame) (m : BlockMap) (ks : List BlockKey) → all_updated f (fold touched m ks) ≡ from_entries (map (λ b. (b, updated f b (voxels_at m b))) (keys m ++ ks))
+pub all_updated-touched : (f : Frame) (m : BlockMap) (ks : List BlockKey) → all_updated f (fold touched m ks) ≡ from_entries (map (λ b. (b, updated (view f) f.max_weight b (voxels_at m b))) (keys m ++ ks))
 unfolding all_updated
-all_updated-touched f m ks = same_pairs _ _ (keys (fold touched m ks)) (keys m ++ ks) (keys_all m ks) (λ q. ap (updated f q) (at_all m ks q))
+all_updated-touched f m ks = same_pairs _ _ (keys (fold touched m ks)) (keys m ++ ks) (keys_all m ks) (λ q. ap (updated (view f) f.max_weight q) (at_all m ks q))
 
-pub fuse_is : (f : Frame) (m : BlockMap) → all_updated f (fold touched m (band f)) ≡ fuse m f
+pub fuse_is : (f : Frame) (m : BlockMap) → all_updated f (fold touched m (band (view f))) ≡ fuse m f
 unfolding fuse
-fuse_is f m = all_updated-touched f m (band f)
+fuse_is f m = all_updated-touched f m (band (view f))
 
 -- ---- the keys
 
@@ -117,8 +115,8 @@ keys_by_rule g m = ap (λ es. map (λ e. e.0) es) (entries_of_sorted (pairs_of g
 
 keys_updated : (f : Frame) (m : BlockMap) → keys (all_updated f m) ≡ keys m
 unfolding all_updated
-keys_updated f m = keys_by_rule (λ b. updated f b (voxels_at m b)) m
+keys_updated f m = keys_by_rule (λ b. updated (view f) f.max_weight b (voxels_at m b)) m
 
 -- the blocks that the fused map has are there once the band is touched
-pub need_is : (f : Frame) (m : BlockMap) → active_count f (fold touched m (band f)) ≡ need m f
-need_is f m = ap (count_by (is_active f)) (sym (keys_updated f (fold touched m (band f))) ∙ ap keys (fuse_is f m))
+pub need_is : (f : Frame) (m : BlockMap) → active_count f (fold touched m (band (view f))) ≡ need m f
+need_is f m = ap (count_by (is_active f)) (sym (keys_updated f (fold touched m (band (view f)))) ∙ ap keys (fuse_is f m))

@@ -1,11 +1,9 @@
 -- Slots stay while others are touched.
 use Rattle.std.proofs.Common.{◌≡◌, Bool, true, false, cond, refl, sym, subst, ap, ◌∙◌}
-use Rattle.std.specs.Prelude.{List, Option, Some, None, is_some, IsTrue, Result, Ok, Err, OnOk, OnErr}
+use Rattle.std.specs.Prelude.{Option, Some, None, is_some, IsTrue}
 use Rattle.std.specs.FinMap.{get, contains_key, insert, retain_keys, get-insert, get-retain_keys, same_map}
 use Rattle.voxel_block.specs.declared.key.BlockKey.{BlockKey}
-use Rattle.voxel_block.specs.declared.voxel.Voxel.{Voxel}
 use Rattle.voxel_block.specs.Blocks.{new_block}
-use Rattle.voxel_block.specs.Keys.{key_cmp}
 use Rattle.voxel_block.proofs.KeyLaws.{keys_total, exact_keys}
 use Rattle.spatial_hash.specs.Contents.{contents}
 use Rattle.block_places.specs.Places.{IsPlaced, Places, Slots, blocks_of, touched}
@@ -42,11 +40,6 @@ keeps_touch p b =
 
 pub keeps_touched : (m n : Places) (b : BlockKey) → n ≡ touched m b → KeepsSlots m n
 keeps_touched m n b e = subst (KeepsSlots m) (sym e) (keeps_touch m b)
-
--- a block was touched, or memory ran out
-pub keeps_by_result : {X E : Type 0} (r : Result X E) (m n : Places) (b : BlockKey) → OnOk r (n ≡ touched m b) → OnErr r (n ≡ m) → KeepsSlots m n
-keeps_by_result (Ok x) m n b ok err = keeps_touched m n b ok
-keeps_by_result (Err e) m n b ok err = keeps_same m n err
 
 -- ---- slots that are taken out again
 

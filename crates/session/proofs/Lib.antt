@@ -1,16 +1,13 @@
 mod BandLemmas
-mod BandSet
 mod FuseLemmas
 mod KeepLemmas
 mod KeyLemmas
 mod KnownLemmas
-mod Machine
 mod MapLemmas
 mod MovingLemmas
 mod Powers
-mod SampleLemmas
 mod SessionLemmas
 mod StandingLemmas
 mod SumLemmas
-mod UpdateLemmas
 mod UpdatingLemmas
+mod WholeLemmas

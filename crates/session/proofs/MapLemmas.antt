@@ -5,12 +5,12 @@ use Rattle.std.specs.Option.{option_map}
 use Rattle.std.specs.List.{list_any, count_by}
 use Rattle.std.specs.Ordering.{eq_by_cmp}
 use Rattle.std.specs.Cmp.{Equal-is}
-use Rattle.std.specs.FinMap.{FinMap, get, keys, entries, len, len-entries, from_entries, find, get-from_entries, contains_key-keys, same_map}
+use Rattle.std.specs.FinMap.{FinMap, get, keys, entries, len, len-entries, from_entries, find, get-from_entries, same_map}
 use Rattle.std.proofs.lemmas.List.{length-map}
 use Rattle.std.proofs.lemmas.List.Sums.{sum_by-cons}
 use Rattle.voxel_block.specs.declared.key.BlockKey.{BlockKey}
 use Rattle.voxel_block.specs.Keys.{key_cmp}
-use Rattle.voxel_block.proofs.KeyLaws.{exact_keys, keys_total, get-changed}
+use Rattle.voxel_block.proofs.KeyLaws.{exact_keys, keys_total}
 
 -- whether two keys are the same
 abbrev pub same_key : BlockKey → BlockKey → Bool
@@ -43,14 +43,6 @@ module _ {X : Type 0} where
   pub by_default : (g : X → X) (d : X) (o : Option X) → option_map g o ≡ cond (is_some o) (Some (g (unwrap_or o d))) None
   by_default g d None = refl
   by_default g d (Some x) = refl
-
-  -- entries whose values were changed by a rule, each by its key
-  pub each_changed : (h : BlockKey → X → X) (d : X) (es fs : List (BlockKey × X)) → fs ≡ map (λ e. (e.0, h e.0 e.1)) es
-      → from_entries {R = key_cmp} fs ≡ from_entries (pairs_of (λ b. h b (unwrap_or (get (from_entries {R = key_cmp} es) b) d)) (keys (from_entries {R = key_cmp} es)))
-  each_changed h d es fs is = same_map keys_total exact_keys _ _ (λ q.
-      let m : FinMap key_cmp X = from_entries es in
-      ap (λ gs. get (from_entries {R = key_cmp} gs) q) is ∙ get-changed h es q ∙ by_default (h q) d (get m q)
-      ∙ ap (λ b. cond b (Some (h q (unwrap_or (get m q) d))) None) (contains_key-keys m q) ∙ sym (get-pairs_of (λ b. h b (unwrap_or (get m b) d)) (keys m) q))
 
 -- ---- a walk over the keys of a map that counts those that pass a test
 

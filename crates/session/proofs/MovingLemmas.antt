@@ -1,8 +1,8 @@
 -- The moves of blocks between their slots and the heap, key by key.
-use Rattle.std.proofs.Common.{◌≡◌, ℕ, zero, suc, ◌+◌, ◌-◌, ◌<◌, ◌≤◌, Bool, true, false, cond, ◌&&◌, ◌||◌, not, List, [], ◌∷◌, length, drop, slice_index_or, refl, sym, ap, subst, ◌∙◌, arith}
+use Rattle.std.proofs.Common.{◌≡◌, ℕ, zero, suc, ◌+◌, ◌<◌, ◌≤◌, Bool, true, false, cond, ◌&&◌, ◌||◌, not, List, [], ◌∷◌, length, drop, slice_index_or, refl, sym, ap, subst, ◌∙◌, arith}
 use Rattle.std.specs.Prelude.{Option, Some, None, is_some, IsTrue, slice_get}
 use Rattle.std.specs.Cmp.{eq_by_cmp_equiv}
-use Rattle.std.specs.List.{list_any, count_by, filter, IsDistinct}
+use Rattle.std.specs.List.{list_any, count_by, filter}
 use Rattle.std.specs.FinMap.{FinMap, get, keys, len, contains_key, contains_key-keys, insert, remove, get-insert, get-remove}
 use Rattle.std.proofs.lemmas.Map.Made.{length-le_from_is_member, is_member-filter}
 use Rattle.voxel_block.specs.declared.key.BlockKey.{BlockKey}

@@ -14,8 +14,8 @@ use Rattle.scan_lang.specs.Config.{Config, IsConfig}
 use Rattle.session.specs.declared.frame.Frame.{Frame}
 use Rattle.session.specs.declared.error.FrameError.{FrameError}
 use Rattle.session.specs.declared.error.FrameError.TheVariants as errors
-use Rattle.session.specs.Frames.{IsFrame, frame_of}
-use Rattle.session.specs.Bands.{band}
+use Rattle.band_walk.specs.Bands.{band}
+use Rattle.session.specs.Frames.{IsFrame, frame_of, view}
 use Rattle.session.specs.Maps.{BlockMap, need, touched, all_updated}
 use Rattle.session.specs.Fold.{State, size, heap, has_size, with_room, with_pose, judged, at_most_u64, fused, frame_done}
 use Rattle.session.specs.Answers.{AnswersFrame, AnswersRoom, posed, offered}
@@ -36,11 +36,15 @@ is_frame c pose depths f e config p sides =
     let w = int_eq (pos depths.width) c.camera.width in
     let h = int_eq (pos depths.height) c.camera.height in
     subst IsFrame (sym e) (record {
-      camera = config.camera;
+      shown = record {
+        camera = config.camera;
+        pose = p;
+        fits = record {
+          width = (Decides-int_eq (pos depths.width) c.camera.width).0 (left_of w h sides);
+          height = (Decides-int_eq (pos depths.height) c.camera.height).0 (right_of w h sides);
+        };
+      };
       max_weight = config.max_weight;
-      pose = p;
-      width = (Decides-int_eq (pos depths.width) c.camera.width).0 (left_of w h sides);
-      height = (Decides-int_eq (pos depths.height) c.camera.height).0 (right_of w h sides);
     })
 
 err_same : {X : Type 0} (a b : FrameError) → ◌≡◌ {A = Result X FrameError} (Err a) (Err b) → a ≡ b
@@ -99,7 +103,7 @@ module _ (c : Config) (s : State) (rows : PoseRows) (depths : Picture) where
 
 -- ---- the state behind a frame
 
-pub fused_is : (s : State) (f : Frame) (m : BlockMap) → m ≡ fold touched s.blocks (band f) → record { blocks = all_updated f m; frames = at_most_u64 (s.frames + 1); last = Some f.pose } ≡ fused s f
+pub fused_is : (s : State) (f : Frame) (m : BlockMap) → m ≡ fold touched s.blocks (band (view f)) → record { blocks = all_updated f m; frames = at_most_u64 (s.frames + 1); last = Some f.pose } ≡ fused s f
 fused_is s f m e = ap (λ (b : BlockMap). record { blocks = b; frames = at_most_u64 (s.frames + 1); last = Some f.pose }) (ap (all_updated f) e ∙ fuse_is f s.blocks)
 
 pub done_is : (s t : State) (f : Frame) (n : ℕ) → t ≡ fused s f → n ≡ need s.blocks f → record { frame = t.frames; blocks = len t.blocks; resident = n } ≡ frame_done f (fused s f)

@@ -8,13 +8,12 @@ use Rattle.camera.specs.Cameras.{is_active as is_active_at}
 use Rattle.scan_lang.specs.Config.{Config}
 use Rattle.session.specs.declared.frame.Frame.{Frame}
 use Rattle.session.specs.Frames.{is_active}
-use Rattle.session.specs.Maps.{BlockMap}
+use Rattle.session.specs.Maps.{BlockMap, HasWholeBlocks}
 use Rattle.session.proofs.MovingLemmas.{away_is_known}
-use Rattle.fixed_geom.specs.Poses.{Pose}
+use Rattle.session.proofs.WholeLemmas.{whole_empty}
 use Rattle.voxel_block.specs.declared.key.BlockKey.{BlockKey}
 use Rattle.voxel_block.specs.declared.voxel.Voxel.{Voxel}
 use Rattle.voxel_block.specs.Blocks.{new_block}
-use Rattle.camera.specs.declared.camera.CameraFields.{CameraFields}
 use Rattle.spatial_hash.specs.Contents.{contents}
 use Rattle.block_places.specs.Owners.{block_in, owner_at, voxels_of}
 use Rattle.block_places.specs.Places.{IsPlaced, Places, blocks_of, cell_of, voxels_by, voxels_in}
@@ -76,6 +75,7 @@ and_false false = refl
 pub settled_start : (c : Config) (p : Places) → IsPlaced p → blocks_of p ≡ empty → length p.heap.cells ≡ c.heap_blocks → IsSettled (record { config = c; places = p; frames = 0; last = None })
 settled_start c p placed none cells = record {
   placed = placed;
+  whole = subst HasWholeBlocks (sym none) whole_empty;
   cells = cells;
   active = λ b. elim (contains_key (contents p.table) b) as (λ t. contains_key (contents p.table) b ≡ t → t ≡ (contains_key (blocks_of p) b && false)) [
     | true ↦ λ e. absurd (let z : false ≡ true = ap is_some (sym (get-empty key_cmp b)) ∙ ap (λ (m : BlockMap). contains_key m b) (sym none) ∙ away_is_known p b placed e in cc)
@@ -84,10 +84,11 @@ settled_start c p placed none cells = record {
 }
 
 -- behind a frame the active blocks lie in the heap
-pub settled_behind : (c : Config) (p : Places) (n : ℕ) (f : Frame) → f.camera ≡ c.camera → IsPlaced p → length p.heap.cells ≡ c.heap_blocks
+pub settled_behind : (c : Config) (p : Places) (n : ℕ) (f : Frame) → f.camera ≡ c.camera → IsPlaced p → HasWholeBlocks (blocks_of p) → length p.heap.cells ≡ c.heap_blocks
     → ((b : BlockKey) → contains_key (contents p.table) b ≡ (contains_key (blocks_of p) b && is_active f b)) → IsSettled (record { config = c; places = p; frames = n; last = Some f.pose })
-settled_behind c p n f same placed cells active = record {
+settled_behind c p n f same placed whole cells active = record {
   placed = placed;
+  whole = whole;
   cells = cells;
   active = λ b. active b ∙ ap (λ k. contains_key (blocks_of p) b && is_active_at k f.pose b) same;
 }

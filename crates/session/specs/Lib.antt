@@ -1,13 +1,10 @@
 pub mod Answers
-pub mod Bands
 pub mod Codes
 pub mod Fold
 pub mod Frames
 pub mod Held
-pub mod Laws
 pub mod Maps
 pub mod Output
 pub mod Rooms
 pub mod Standing
 pub mod Sums
-pub mod Updates

@@ -1,5 +1,5 @@
 -- Room for a frame: what stays while blocks are touched, and what is made ready before the first block moves.
-use Rattle.std.specs.Prelude.{◌≡◌, ◌≤◌, ◌&&◌, not, ℕ, Bool, IsTrue, length}
+use Rattle.std.specs.Prelude.{◌≡◌, ◌≤◌, ◌&&◌, not, Bool, IsTrue, length}
 use Rattle.std.specs.FinMap.{get, contains_key, keys}
 use Rattle.std.specs.List.{count_by}
 use Rattle.std.specs.Ordering.{eq_by_cmp}

@@ -1,5 +1,5 @@
 -- Where the blocks of a session lie between its calls.
-use Rattle.std.specs.Prelude.{◌≡◌, ◌↔◌, ◌&&◌, ℕ, Bool, true, false, IsTrue, List, length, Option, Some, None, ◌⊎◌}
+use Rattle.std.specs.Prelude.{◌≡◌, ◌&&◌, ℕ, Bool, false, IsTrue, List, length, Option, Some, None, ◌⊎◌}
 use Rattle.std.specs.FinMap.{get, contains_key}
 use Rattle.fixed_geom.specs.Poses.{Pose}
 use Rattle.voxel_block.specs.declared.key.BlockKey.{BlockKey}
@@ -10,6 +10,7 @@ use Rattle.spatial_hash.specs.Contents.{contents}
 use Rattle.block_places.specs.Owners.{owner_at}
 use Rattle.block_places.specs.Places.{Places, IsPlaced, blocks_of, cell_of}
 use Rattle.session.specs.Answers.{Held}
+use Rattle.session.specs.Maps.{HasWholeBlocks}
 
 -- whether a block is active for the last frame; none is where there is no last frame
 abbrev pub is_active_last : CameraFields → Option Pose → BlockKey → Bool
@@ -48,5 +49,6 @@ pub record Stands (h : Held) : Type 0 where
 -- what the session's type keeps, of which the rest follows
 pub record IsSettled (h : Held) : Type 0 where
   pub placed : IsPlaced h.places
+  pub whole : HasWholeBlocks (blocks_of h.places)
   pub active : (b : BlockKey) → contains_key (contents h.places.table) b ≡ (contains_key (blocks_of h.places) b && is_active_last h.config.camera h.last b)
   pub cells : length h.places.heap.cells ≡ h.config.heap_blocks

@@ -4,10 +4,10 @@ ghost use Rattle.std.specs.FinMap.{contains_key, keys, len};
 ghost use Rattle.std.specs.List.{count_by};
 ghost use Rattle.voxel_block.specs.declared.key.BlockKey.{BlockKey as Key};
 ghost use Rattle.voxel_block.specs.Keys.{key_cmp};
+ghost use Rattle.band_walk.specs.Bands.{band};
 ghost use Rattle.block_places.specs.Places.{blocks_of, IsPlaced};
 ghost use Rattle.session.specs.Answers.{AnswersRoom, resident_of};
-ghost use Rattle.session.specs.Bands.{band};
-ghost use Rattle.session.specs.Frames.{IsFrame};
+ghost use Rattle.session.specs.Frames.{IsFrame, view};
 ghost use Rattle.session.specs.Maps.{active_count as active_count_of, need, touched};
 ghost use Rattle.session.specs.Rooms.{IsPlan, KeepsSlots, leaves as leaves_by};
 
@@ -43,7 +43,7 @@ pub fn make_room(
     requires frame { IsFrame frame.now }
     requires limit { limit ≤ length places.old.heap.cells }
     ensures room { AnswersRoom limit (need (blocks_of places.old) frame.now) (resident_of result) }
-    ensures touched { OnOk result (blocks_of places.new ≡ fold touched (blocks_of places.old) (band frame.now)) }
+    ensures touched { OnOk result (blocks_of places.new ≡ fold touched (blocks_of places.old) (band (view frame.now))) }
     ensures plan { IfOk result (IsPlan frame.now places.new) }
     ensures cells { OnOk result (length places.new.heap.cells ≡ length places.old.heap.cells) }
     ensures kept { OnErr result (places.new ≡ places.old) }
@@ -68,7 +68,7 @@ fn plan_within(
     requires frame { IsFrame frame.now }
     requires limit { limit ≤ length places.old.heap.cells }
     ensures room { AnswersRoom limit (need (blocks_of places.old) frame.now) (resident_of result) }
-    ensures touched { OnOk result (blocks_of places.new ≡ fold touched (blocks_of places.old) (band frame.now)) }
+    ensures touched { OnOk result (blocks_of places.new ≡ fold touched (blocks_of places.old) (band (view frame.now))) }
     ensures plan { IfOk result (IsPlan frame.now places.new) }
     ensures kept { KeepsSlots places.old places.new }
 {

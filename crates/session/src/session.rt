@@ -17,7 +17,7 @@ ghost use Rattle.session.specs.Standing.{Stands};
 ghost use Rattle.session.specs.Answers.{AnswersFrame, state_of, offered as offered_of};
 ghost use Rattle.session.specs.Fold.{start as first_state, after, at_most_u64, has_size as has_size_of, known_voxels as known_voxels_of, totals_of};
 ghost use Rattle.session.specs.Frames.{IsFrame, frame_of as frame_by};
-ghost use Rattle.session.specs.Maps.{all_updated};
+ghost use Rattle.session.specs.Maps.{HasWholeBlocks, all_updated};
 
 use crate::error::{FrameError, ReadError};
 use crate::frame::Frame;
@@ -130,9 +130,11 @@ impl Session {
 fn fuse(places: &mut Places, frame: &Frame, plan: Plan)
     requires frame { IsFrame frame.now }
     requires plan { IsPlan frame.now places.old plan }
+    requires whole { HasWholeBlocks (blocks_of places.old) }
     ensures updated { blocks_of places.new ≡ all_updated frame.now (blocks_of places.old) }
     ensures active { (b : Key) → contains_key (contents places.new.table) b ≡ (contains_key (blocks_of places.new) b && is_active frame.now b) }
     ensures stays { IsPlaced places.new }
+    ensures whole { HasWholeBlocks (blocks_of places.new) }
     ensures cells { length places.new.heap.cells ≡ length places.old.heap.cells }
 {
     let mut spares = plan.spares;

@@ -52,6 +52,13 @@ impl Block {
         self.weights.as_mut_slice().fill(0);
     }
 
+    /// A block has 512 voxels. The body does nothing: the clause is the theorem.
+    pub fn has_all_voxels(&self)
+        ensures { length self.now ≡ 512 }
+    {
+        let _ = &self.distances;
+    }
+
     /// The voxel of this index.
     pub fn get(&self, i: u16) -> Voxel
         requires { i < 512 }

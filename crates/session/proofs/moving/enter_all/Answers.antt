@@ -1,7 +1,7 @@
-use Rattle.std.proofs.Common.{◌≡◌, ◌+◌, ◌∙◌, length, drop, slice_index_or, sym, ap}
+use Rattle.std.proofs.Common.{◌+◌, drop, slice_index_or}
 use Rattle.std.specs.Prelude.{pos}
 use Rattle.voxel_block.specs.declared.key.BlockKey.{BlockKey}
-use Rattle.std.proofs.Common.{◌&&◌, not}
+use Rattle.std.proofs.Common.{not}
 use Rattle.std.specs.FinMap.{contains_key}
 use Rattle.spatial_hash.specs.Contents.{contents}
 use Rattle.session.specs.Frames.{is_active}

@@ -1,4 +1,4 @@
-use Rattle.std.proofs.Common.{◌≡◌, ◌∙◌, ◌-◌, length, sym, ap, arith}
+use Rattle.std.proofs.Common.{◌∙◌, ◌-◌, length, sym, ap, arith}
 use Rattle.std.specs.FinMap.{contains_key}
 use Rattle.spatial_hash.specs.Contents.{contents}
 use Rattle.session.specs.Frames.{is_active}

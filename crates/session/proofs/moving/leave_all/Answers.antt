@@ -1,4 +1,4 @@
-use Rattle.std.proofs.Common.{◌≡◌, ◌+◌, ◌∙◌, length, drop, slice_index_or, sym, ap}
+use Rattle.std.proofs.Common.{◌+◌, length, drop, slice_index_or}
 use Rattle.std.specs.Prelude.{pos}
 use Rattle.voxel_block.specs.declared.key.BlockKey.{BlockKey}
 use Rattle.session.proofs.MovingLemmas.{leaving_start, leaving_spare, leaving_next, leaving_end, next_from, none_from}

@@ -1,4 +1,4 @@
-use Rattle.std.proofs.Common.{◌≡◌, ◌++◌, [], ◌∷◌, ap, ◌∙◌}
+use Rattle.std.proofs.Common.{◌++◌, [], ◌∷◌, ap, ◌∙◌}
 use Rattle.session.proofs.KnownLemmas.{pushed, all_pushed}
 use Rattle.session.proofs.room.all_keys.Goals as goal
 

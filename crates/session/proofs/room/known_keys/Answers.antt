@@ -2,7 +2,7 @@ use Rattle.std.proofs.Common.{◌≡◌, ◌||◌, Bool, true, false, cond, sym,
 use Rattle.std.specs.List.{list_any}
 use Rattle.std.specs.Cmp.{eq_by_cmp_equiv}
 use Rattle.std.specs.BTreeSet.{contains}
-use Rattle.std.specs.FinMap.{keys, contains_key-keys}
+use Rattle.std.specs.FinMap.{contains_key-keys}
 use Rattle.voxel_block.specs.Keys.{key_cmp}
 use Rattle.voxel_block.proofs.KeyLaws.{keys_total}
 use Rattle.block_places.specs.Places.{blocks_of}

@@ -1,4 +1,4 @@
-use Rattle.std.proofs.Common.{◌≡◌, ◌∙◌, ap}
+use Rattle.std.proofs.Common.{◌∙◌}
 use Rattle.std.specs.BTreeSet.{contains}
 use Rattle.voxel_block.specs.Keys.{key_cmp}
 use Rattle.session.proofs.KeepLemmas.{put_back, away_known}

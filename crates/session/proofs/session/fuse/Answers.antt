@@ -1,11 +1,18 @@
-use Rattle.std.proofs.Common.{◌≡◌, ◌&&◌, sym, ap, ◌∙◌}
+use Rattle.std.proofs.Common.{◌&&◌, sym, ap, subst, ◌∙◌}
 use Rattle.std.specs.FinMap.{contains_key}
 use Rattle.spatial_hash.specs.Contents.{contents}
 use Rattle.block_places.specs.Places.{blocks_of}
 use Rattle.session.specs.Frames.{is_active}
-use Rattle.session.specs.Maps.{BlockMap}
+use Rattle.session.specs.Maps.{BlockMap, HasWholeBlocks}
 use Rattle.session.proofs.UpdatingLemmas.{has_updated}
+use Rattle.session.proofs.WholeLemmas.{whole_updated}
 use Rattle.session.proofs.session.fuse.Goals as goal
+
+pub update_all-requires-clause-whole : goal.update_all-requires-clause-whole
+update_all-requires-clause-whole c = subst HasWholeBlocks (sym c.move_blocks.ensures.moved.blocks) c.requires.whole
+
+pub returns-clause-whole : goal.returns-clause-whole
+returns-clause-whole c = subst HasWholeBlocks (sym c.update_all.ensures.updated) (whole_updated c.args.frame.now (blocks_of c.move_blocks.new.places) (subst HasWholeBlocks (sym c.move_blocks.ensures.moved.blocks) c.requires.whole))
 
 pub returns-clause-active : goal.returns-clause-active
 returns-clause-active c = λ b.

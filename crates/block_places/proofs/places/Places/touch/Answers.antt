@@ -8,10 +8,16 @@ use Rattle.voxel_block.proofs.KeyLaws.{one_put}
 use Rattle.block_places.specs.Places.{IsPlaced, Places, blocks_of, slots_of, touched}
 use Rattle.block_places.specs.Seen.{seen}
 use Rattle.block_places.proofs.Keyed.{when_ok}
-use Rattle.block_places.proofs.Moves.{blocks_touched, placed_with, touched_again, touched_new, unknown_stored, with_slots}
+use Rattle.block_places.proofs.Moves.{away_is_known, blocks_touched, placed_with, touched_again, touched_new, unknown_stored, with_slots}
 use Rattle.block_places.proofs.Trees.{has_slot}
 use Rattle.block_places.proofs.places.Places.touch.Goals as goal
 use Rattle.block_places.proofs.places.Places.touch.Goals.{Else-is_err}
+
+pub returns-then-is_away-clause-ok : goal.returns-then-is_away-clause-ok
+returns-then-is_away-clause-ok c = touched_again c.args.self.now c.args.key (away_is_known c.args.self.now c.args.key c.is_away.ensures.placed (sym c.is_away.ensures.value ∙ c.if-is_away.true))
+
+pub returns-then-is_away-clause-blocks : goal.returns-then-is_away-clause-blocks
+returns-then-is_away-clause-blocks c = ap blocks_of (returns-then-is_away-clause-ok c) ∙ blocks_touched c.args.self.now c.args.key
 
 -- the key was not known
 unknown : (c : Else-is_err) → contains_key (slots_of c.self.inside.slots.entries) c.args.key ≡ false

@@ -2,13 +2,15 @@ use Rattle.std.proofs.Common.{◌≡◌, ◌+◌, sym, ap, subst, ◌∙◌, rul
 use Rattle.std.specs.Prelude.{Ok, Err, Some}
 use Rattle.std.proofs.lemmas.Result.{err_from_is_err_and}
 use Rattle.block_places.specs.Places.{Places, blocks_of}
-use Rattle.session.specs.Maps.{BlockMap, need}
+use Rattle.band_walk.specs.Bands.{band}
+use Rattle.session.specs.Frames.{view}
+use Rattle.session.specs.Maps.{HasWholeBlocks, need}
 use Rattle.session.specs.Fold.{State, after_frame, at_most_u64, judged, fused}
 use Rattle.session.specs.Answers.{Held, AnswersRoom, offered, state_of}
-use Rattle.session.specs.Held.{held}
 use Rattle.session.specs.Standing.{IsSettled}
 use Rattle.session.proofs.SessionLemmas.{refused, refused_room, accepted_room, fused_is, done_is}
 use Rattle.session.proofs.StandingLemmas.{settled_behind, stands}
+use Rattle.session.proofs.WholeLemmas.{whole_all}
 use Rattle.session.proofs.session.Session.frame.Goals as goal
 
 pub returns-in_err-frame-clause-answer : goal.returns-in_err-frame-clause-answer
@@ -37,15 +39,18 @@ returns-in_err-plan-clause-stands c =
     let with_places : Places → Held = λ p. record { config = c.self.inside.config; places = p; frames = c.self.inside.frames; last = c.self.inside.last } in
     stands (with_places c.make_room.new.places) (subst (λ p. IsSettled (with_places p)) (sym c.in_err-plan.ensures.kept) c.self.invariant)
 
+pub fuse-requires-clause-whole : goal.fuse-requires-clause-whole
+fuse-requires-clause-whole c = subst HasWholeBlocks (sym c.in_ok-plan.ensures.touched) (whole_all (blocks_of c.self.inside.places) (band (view c.in_ok-frame.frame)) c.self.invariant.whole)
+
 pub invariant_of-self-2 : goal.invariant_of-self-2
 invariant_of-self-2 c =
-    settled_behind c.self.inside.config c.fuse.new.places c.saturating_add-self-inside.result c.in_ok-frame.frame c.in_ok-frame.ensures.camera c.fuse.ensures.stays
+    settled_behind c.self.inside.config c.fuse.new.places c.saturating_add-self-inside.result c.in_ok-frame.frame c.in_ok-frame.ensures.camera c.fuse.ensures.stays c.fuse.ensures.whole
     (c.fuse.ensures.cells ∙ c.in_ok-plan.ensures.cells ∙ c.self.invariant.cells) c.fuse.ensures.active
 
 pub returns-clause-stands : goal.returns-clause-stands
 returns-clause-stands c =
     let new : Held = record { config = c.self.inside.config; places = c.fuse.new.places; frames = c.saturating_add-self-inside.result; last = Some c.in_ok-frame.frame.pose } in
-    stands new (settled_behind c.self.inside.config c.fuse.new.places c.saturating_add-self-inside.result c.in_ok-frame.frame c.in_ok-frame.ensures.camera c.fuse.ensures.stays
+    stands new (settled_behind c.self.inside.config c.fuse.new.places c.saturating_add-self-inside.result c.in_ok-frame.frame c.in_ok-frame.ensures.camera c.fuse.ensures.stays c.fuse.ensures.whole
     (c.fuse.ensures.cells ∙ c.in_ok-plan.ensures.cells ∙ c.self.invariant.cells) c.fuse.ensures.active)
 
 pub returns-clause-answer : goal.returns-clause-answer

@@ -1,10 +1,8 @@
-use Rattle.std.proofs.Common.{◌≡◌, ℕ, length, sym, ap, subst, ◌∙◌}
+use Rattle.std.proofs.Common.{length, sym, ap, subst, ◌∙◌}
 use Rattle.std.proofs.lemmas.List.{length-replicate}
 use Rattle.block_heap.specs.declared.cell.Cell.TheVariants.{Free}
 use Rattle.voxel_block.specs.Blocks.{new_block}
 use Rattle.block_places.specs.Places.{Places}
-use Rattle.session.specs.Held.{held}
-use Rattle.session.specs.Standing.{IsSettled}
 use Rattle.std.specs.Int.{IsPowerOfTwo}
 use Rattle.session.proofs.Powers.{is_power}
 use Rattle.session.proofs.StandingLemmas.{settled_start, stands}

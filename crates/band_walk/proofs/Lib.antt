@@ -1,0 +1,7 @@
+mod BandSet
+mod FloorLemmas
+mod Keys
+mod Machine
+mod SampleLemmas
+mod WalkLemmas
+mod WorldLemmas

@@ -1,0 +1,91 @@
+-- The samples of a segment: they lie between its ends, and their blocks fit 16 bits.
+use Rattle.std.proofs.Common.{◌≡◌, ℕ, ◌+◌, ◌*◌, ◌/◌, ◌≤◌, ◌<◌, arith}
+use Rattle.std.specs.Prelude.{ℤ, pos, neg_ℤ, ◌+ℤ◌, ◌-ℤ◌, ◌*ℤ◌, ◌≤ℤ◌, ◌<ℤ◌}
+use Rattle.std.proofs.lemmas.Int.{ints, by_lt_z}
+use Rattle.std.proofs.lemmas.Nat.{div_below}
+use Rattle.fixed_geom.specs.Division.{IsFloor, floor_div}
+use Rattle.fixed_geom.specs.declared.vector.Vec3.{Vec3}
+use Rattle.fixed_geom.specs.Vectors.{IsWithin, AreWithin}
+use Rattle.fixed_geom.proofs.Whole.{mul_neg, mul_turn, mul_order}
+use Rattle.fixed_geom.proofs.Floors.{floor_is, floor_above, floor_below}
+use Rattle.band_walk.specs.Bands.{segment_point}
+
+-- ---- samples
+
+-- j parts of n of a way are between none of it and all of it
+rising : (d n j q : ℤ) → pos 0 ≤ℤ d → pos 0 ≤ℤ j → j ≤ℤ n → pos 1 ≤ℤ n → IsFloor (j *ℤ d) n q → (pos 0 ≤ℤ q) × (q ≤ℤ d)
+rising d n j q d0 j0 jn n1 f = (
+  floor_above (j *ℤ d) n q (pos 0) n1 f (low (n *ℤ pos 0) (j *ℤ pos 0) (j *ℤ d) (omega (arith, ints)) (omega (arith, ints)) (mul_order j (pos 0) d j0 d0)),
+  floor_below (j *ℤ d) n q d n1 f (high (j *ℤ d) (d *ℤ j) (d *ℤ n) (n *ℤ d) n (mul_turn j d) (mul_turn d n) (mul_order d j n d0 jn) n1),
+)
+  where
+    low : (n0 j0 jd : ℤ) → n0 ≡ pos 0 → j0 ≡ pos 0 → j0 ≤ℤ jd → n0 ≤ℤ jd
+    low n0 j0 jd a b c = omega (arith, ints)
+
+    high : (jd dj dn nd n : ℤ) → jd ≡ dj → dn ≡ nd → dj ≤ℤ dn → pos 1 ≤ℤ n → jd <ℤ (nd +ℤ n)
+    high jd dj dn nd n a b c h = omega (arith, ints)
+
+falling : (d n j q : ℤ) → d ≤ℤ pos 0 → pos 0 ≤ℤ j → j ≤ℤ n → pos 1 ≤ℤ n → IsFloor (j *ℤ d) n q → (d ≤ℤ q) × (q ≤ℤ pos 0)
+falling d n j q d0 j0 jn n1 f = (
+  floor_above (j *ℤ d) n q d n1 f (low (n *ℤ d) (j *ℤ d) (neg_ℤ d *ℤ j) (neg_ℤ d *ℤ n) (j *ℤ neg_ℤ d) (n *ℤ neg_ℤ d) (mul_turn (neg_ℤ d) j) (mul_turn (neg_ℤ d) n) (mul_neg j d) (mul_neg n d) (mul_order (neg_ℤ d) j n (omega (arith, ints)) jn)),
+  floor_below (j *ℤ d) n q (pos 0) n1 f (high (j *ℤ d) (j *ℤ pos 0) (n *ℤ pos 0) n (omega (arith, ints)) (omega (arith, ints)) (mul_order j d (pos 0) j0 d0) n1),
+)
+  where
+    low : (nd jd pj pn jp np : ℤ) → pj ≡ jp → pn ≡ np → jp ≡ neg_ℤ jd → np ≡ neg_ℤ nd → pj ≤ℤ pn → nd ≤ℤ jd
+    low nd jd pj pn jp np a b c d e = omega (arith, ints)
+
+    high : (jd j0 n0 n : ℤ) → j0 ≡ pos 0 → n0 ≡ pos 0 → jd ≤ℤ j0 → pos 1 ≤ℤ n → jd <ℤ (n0 +ℤ n)
+    high jd j0 n0 n a b c h = omega (arith, ints)
+
+-- a sample is as near to the origin as the ends are
+pub sample_on_within : (w a e n j : ℤ) → pos 0 ≤ℤ j → j ≤ℤ n → pos 1 ≤ℤ n → IsWithin w a → IsWithin w e → IsWithin w (a +ℤ floor_div (j *ℤ (e -ℤ a)) n)
+sample_on_within w a e n j j0 jn n1 v i =
+    let d = e -ℤ a in
+    let q = floor_div (j *ℤ d) n in
+    let f = floor_is (j *ℤ d) n n1 in
+    by_lt_z (pos 0) d
+    (λ (l : pos 0 <ℤ d). up w a e q v i (rising d n j q (omega (arith, ints)) j0 jn n1 f))
+    (λ (m : d ≤ℤ pos 0). down w a e q v i (falling d n j q m j0 jn n1 f))
+  where
+    up : (w a e q : ℤ) → IsWithin w a → IsWithin w e → (pos 0 ≤ℤ q) × (q ≤ℤ (e -ℤ a)) → IsWithin w (a +ℤ q)
+    up w a e q v i t = record { low = omega (arith, ints, t.0, t.1); high = omega (arith, ints, t.0, t.1) }
+
+    down : (w a e q : ℤ) → IsWithin w a → IsWithin w e → ((e -ℤ a) ≤ℤ q) × (q ≤ℤ pos 0) → IsWithin w (a +ℤ q)
+    down w a e q v i t = record { low = omega (arith, ints, t.0, t.1); high = omega (arith, ints, t.0, t.1) }
+
+pub sample_within : (w : ℤ) (a e : Vec3) (n j : ℕ) → 1 ≤ n → j ≤ n → AreWithin w a → AreWithin w e → AreWithin w (segment_point a e n j)
+sample_within w a e n j n1 jn v i = record {
+  x = sample_on_within w a.x e.x (pos n) (pos j) (omega (arith, ints)) (omega (arith, ints)) (omega (arith, ints)) v.x i.x;
+  y = sample_on_within w a.y e.y (pos n) (pos j) (omega (arith, ints)) (omega (arith, ints)) (omega (arith, ints)) v.y i.y;
+  z = sample_on_within w a.z e.z (pos n) (pos j) (omega (arith, ints)) (omega (arith, ints)) (omega (arith, ints)) v.z i.z;
+}
+
+-- how many steps the samples of a segment take at most
+pub few_steps : (m s : ℕ) → m ≤ 302012452 → 1000 ≤ s → 1 + 2 * m / (8 * s) ≤ 75504
+few_steps m s h k =
+    let below : 2 * m / (8 * s) < 75504 = div_below (2 * m) (8 * s) 75504 (omega arith) (omega arith) in
+    omega arith
+
+-- ---- blocks
+
+-- z is from low to high
+pub record IsFrom (low high z : ℤ) : Type 0 where
+  pub above : low ≤ℤ z
+  pub below : z ≤ℤ high
+
+-- one coordinate of the block of a point
+pub block_on_from : (s x : ℤ) → pos 1000 ≤ℤ s → IsWithin (pos 151006226) x → IsFrom (neg_ℤ (pos 18876)) (pos 18875) (floor_div x (pos 8 *ℤ s))
+block_on_from s x s1 w =
+    let b = pos 8 *ℤ s in
+    let b1 : pos 1 ≤ℤ b = omega (arith, ints) in
+    let f = floor_is x b b1 in
+    record {
+      above = floor_above x b (floor_div x b) (neg_ℤ (pos 18876)) b1 f (low s x s1 w);
+      below = floor_below x b (floor_div x b) (pos 18875) b1 f (high s x s1 w);
+    }
+  where
+    low : (s x : ℤ) → pos 1000 ≤ℤ s → IsWithin (pos 151006226) x → (pos 8 *ℤ s *ℤ neg_ℤ (pos 18876)) ≤ℤ x
+    low s x s1 w = omega (arith, ints)
+
+    high : (s x : ℤ) → pos 1000 ≤ℤ s → IsWithin (pos 151006226) x → x <ℤ (pos 8 *ℤ s *ℤ pos 18875 +ℤ pos 8 *ℤ s)
+    high s x s1 w = omega (arith, ints)

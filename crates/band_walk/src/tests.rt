@@ -1,0 +1,165 @@
+ghost use Rattle.std.specs.Prelude.{◌≡◌, ◌<◌, ◌*◌, pos, IfOk, vec_len, length};
+ghost use Rattle.depth_view.specs.Views.{FitsImage, view_of};
+ghost use Rattle.band_walk.specs.Bands.{row_keys};
+
+use crate::BandWalk;
+use camera::{Camera, CameraFields};
+use depth_frame::DepthFrame;
+use fixed_geom::{Pose, PoseRows, Vec3};
+use std::alloc::{AllocError, Global};
+use voxel_block::BlockKey;
+
+const ONE: i64 = 1 << 30;
+
+const AHEAD: [i64; 9] = [ONE, 0, 0, 0, ONE, 0, 0, 0, ONE];
+
+// Half a turn round the vertical axis.
+const BACK: [i64; 9] = [-ONE, 0, 0, 0, ONE, 0, 0, 0, -ONE];
+
+// One pixel that looks along the axis, voxels of 1 cm and a truncation distance of 4 cm.
+const PIXEL: CameraFields = CameraFields {
+    width: 1,
+    height: 1,
+    fx: 65536,
+    fy: 65536,
+    cx: 0,
+    cy: 0,
+    unit: 1000,
+    near: 500000,
+    far: 2000000,
+    voxel: 10000,
+    mu: 40000,
+    radius: 2100000,
+    centre: 1020000,
+};
+
+// The same pixel, which sees from 1 mm on and has a truncation distance of 10 cm.
+const NEAR_PIXEL: CameraFields = CameraFields {
+    near: 1000,
+    mu: 100000,
+    radius: 2300000,
+    centre: 1050000,
+    ..PIXEL
+};
+
+// Two pixels, the second of which looks half a turn's quarter to the side.
+const WIDE: CameraFields = CameraFields {
+    width: 2,
+    radius: 4000000,
+    ..PIXEL
+};
+
+// Two rows of two pixels that look a thousandth aside, and so through the same blocks.
+const NARROW: CameraFields = CameraFields {
+    width: 2,
+    height: 2,
+    fx: 65536000,
+    fy: 65536000,
+    radius: 4000000,
+    ..PIXEL
+};
+
+// The keys of a row.
+fn collected(
+    alloc: Global,
+    camera: &Camera,
+    pose: &Pose,
+    frame: &DepthFrame,
+    v: u32,
+) -> Result<Vec<BlockKey>, AllocError>
+    requires fits { FitsImage camera.now frame.now }
+    requires row { v < frame.now.height }
+    ensures { IfOk result (λ keys. keys.items ≡ row_keys (view_of camera.now pose.now frame.now) v) }
+{
+    let mut keys = Vec::new(alloc);
+    for key in BandWalk::over(camera, pose, frame, v) {
+        keys.push(key)?;
+    }
+    Ok(keys)
+}
+
+// The keys of row `v` of the samples, seen from the origin. `None` where the camera or the pose is none, or memory is
+// wanting.
+fn keys(
+    alloc: Global,
+    fields: CameraFields,
+    r: [i64; 9],
+    width: u32,
+    height: u32,
+    samples: &[u16],
+    v: u32,
+) -> Option<Vec<BlockKey>>
+    requires width { fields.width ≡ pos width }
+    requires height { fields.height ≡ pos height }
+    requires samples { length samples.now ≡ width * height }
+    requires row { v < height }
+{
+    let Ok(camera) = Camera::make(fields) else {
+        return None;
+    };
+    let t = Vec3 { x: 0, y: 0, z: 0 };
+    let pose = Pose::accept(&PoseRows { r, t }).ok()?;
+    let raw = Vec::from_slice(alloc, samples).ok()?;
+    let frame = DepthFrame::make(width, height, raw);
+    collected(alloc, &camera, &pose, &frame, v).ok()
+}
+
+fn same(keys: Option<Vec<BlockKey>>, expected: &[(i16, i16, i16)]) -> bool {
+    match keys {
+        Some(keys) => {
+            keys.len() == expected.len()
+                && keys.iter().zip(expected).all(|(key, (x, y, z))| key.x == *x
+                    && key.y == *y
+                    && key.z == *z)
+        }
+        None => false,
+    }
+}
+
+#[test]
+fn keys_of_rows(rt: HostRuntime) {
+    let alloc = rt.alloc();
+    for (r, sample, expected) in [
+        (AHEAD, 1000, [(0, 0, 12), (0, 0, 13)].as_slice()),
+        (AHEAD, 0, &[]),
+        (AHEAD, 499, &[]),
+        (AHEAD, 500, &[(0, 0, 5), (0, 0, 6)]),
+        (AHEAD, 2000, &[(0, 0, 24), (0, 0, 25)]),
+        (AHEAD, 2001, &[]),
+        (BACK, 1000, &[(0, 0, -12), (0, 0, -13)]),
+    ] {
+        let found = keys(alloc, PIXEL, r, 1, 1, &[sample], 0);
+        assert!(rt; same(found, expected), "at {}", sample);
+    }
+    let found = keys(alloc, NEAR_PIXEL, AHEAD, 1, 1, &[1], 0);
+    assert!(rt; same(found, &[(0, 0, 0), (0, 0, 1)]));
+    for (samples, expected) in [
+        ([0, 1000], [(12, 0, 12), (13, 0, 13)].as_slice()),
+        (
+            [1000, 1000],
+            &[(0, 0, 12), (0, 0, 13), (12, 0, 12), (13, 0, 13)],
+        ),
+    ] {
+        let found = keys(alloc, WIDE, AHEAD, 2, 1, &samples, 0);
+        assert!(rt; same(found, expected), "from {}", samples[0]);
+    }
+    for (samples, v, expected) in [
+        // a neighbour left out between two pixels
+        (
+            [1000, 1080, 0, 0],
+            0,
+            [(0, 0, 12), (0, 0, 13), (0, 0, 14)].as_slice(),
+        ),
+        // the same keys again
+        (
+            [1000, 1000, 0, 0],
+            0,
+            &[(0, 0, 12), (0, 0, 13), (0, 0, 12), (0, 0, 13)],
+        ),
+        // a row begins with the last key of the row before
+        ([1000, 0, 1080, 0], 1, &[(0, 0, 13), (0, 0, 14)]),
+    ] {
+        let found = keys(alloc, NARROW, AHEAD, 2, 2, &samples, v);
+        assert!(rt; same(found, expected), "row {}", v);
+    }
+}

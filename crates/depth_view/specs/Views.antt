@@ -1,0 +1,29 @@
+-- A view: a depth map, the camera that took it, and the pose that it was taken from.
+use Rattle.std.specs.Prelude.{◌≡◌, ℕ, ℤ, pos, Option}
+use Rattle.fixed_geom.specs.Poses.{Pose, IsPose}
+use Rattle.depth_frame.specs.Pictures.{Picture, sample_at}
+use Rattle.camera.specs.declared.camera.CameraFields.{CameraFields}
+use Rattle.camera.specs.Cameras.{IsCamera, depth_of}
+
+pub record View : Type 0 where
+  pub camera : CameraFields
+  pub pose : Pose
+  pub depths : Picture
+
+abbrev pub view_of : CameraFields → Pose → Picture → View
+view_of k m p = record { camera = k; pose = m; depths = p }
+
+-- a depth map has the sides of a camera's image
+pub record FitsImage (k : CameraFields) (p : Picture) : Type 0 where
+  pub width : pos p.width ≡ k.width
+  pub height : pos p.height ≡ k.height
+
+-- the camera has passed its tests, the pose too, and the depth map has the image's sides
+pub record IsView (w : View) : Type 0 where
+  pub camera : IsCamera w.camera
+  pub pose : IsPose w.pose
+  pub fits : FitsImage w.camera w.depths
+
+-- the depth that a pixel shows, nothing where its sample is not valid
+abbrev pub depth_at : View → (u v : ℕ) → Option ℤ
+depth_at w u v = depth_of w.camera (sample_at w.depths u v)

@@ -1,0 +1,94 @@
+-- What a frame meets, and what it leaves.
+use Rattle.std.proofs.Common.{◌≡◌, ℕ, ◌<◌, refl, sym, ◌∙◌, ap, subst, arith, List, length}
+use Rattle.std.specs.Prelude.{ℤ, pos, neg_ℤ, ◌+ℤ◌, ◌-ℤ◌, ◌*ℤ◌, ◌==◌, ◌≤ℤ◌, Bool, true, false, IsTrue, int_le, cond, Option, Some, None, option_and_then}
+use Rattle.std.proofs.lemmas.Int.{ints}
+use Rattle.std.proofs.lemmas.Option.{slice_get_within}
+use Rattle.fixed_geom.specs.declared.vector.Vec3.{Vec3}
+use Rattle.fixed_geom.specs.Poses.{cam}
+use Rattle.voxel_block.specs.declared.key.BlockKey.{BlockKey}
+use Rattle.voxel_block.specs.declared.voxel.Voxel.{Voxel}
+use Rattle.voxel_block.proofs.Blocks.{by_index-unchanged}
+use Rattle.camera.specs.declared.camera.CameraFields.{CameraFields}
+use Rattle.camera.specs.Cameras.{depth_of, is_active, project, valid_depth, within}
+use Rattle.camera.specs.Grid.{point_of}
+use Rattle.camera.specs.Visibility.{IsMetAt, MeetsNone, may_be_seen}
+use Rattle.camera.proofs.Active.{met_is_active, inactive_meets_none}
+use Rattle.camera.proofs.Inside.{met_by_pixel}
+use Rattle.camera.proofs.RangeLemmas.{at_most, between}
+use Rattle.camera.proofs.Seen.{unseen_meets_none}
+use Rattle.depth_frame.specs.Pictures.{sample_at}
+use Rattle.depth_view.specs.Views.{View, IsView, depth_at}
+use Rattle.fuse_kernel.specs.Updates.{Meets, averaged, depth_behind, seen, update, updated}
+use Rattle.fuse_kernel.proofs.UpdateLemmas.{le_tells}
+
+-- a voxel that a frame meets is averaged
+pub met_is_averaged : (w : View) (n : ℕ) (p : Vec3) (x : Voxel) → (m : Meets w p) → update w n p x ≡ averaged w.camera.mu n (m.d -ℤ (cam w.pose p).z) x
+met_is_averaged w n p x m =
+    let c = cam w.pose p in
+    let e : int_le (neg_ℤ w.camera.mu) (m.d -ℤ c.z) ≡ true = at_most (neg_ℤ w.camera.mu) (m.d -ℤ c.z) m.near in
+    ap (λ (o : Option ℤ). seen w.camera.mu n c.z x o) m.depth ∙ ap (λ (b : Bool). cond b (averaged w.camera.mu n (m.d -ℤ c.z) x) x) e
+
+-- and every other one stays
+pub unmet_stays : (w : View) (n : ℕ) (p : Vec3) (x : Voxel) → ¬ Meets w p → update w n p x ≡ x
+unmet_stays w n p x unmet = by_depth (depth_behind w (cam w.pose p)) refl
+  where
+    by_test : (d : ℤ) (b : Bool) → depth_behind w (cam w.pose p) ≡ Some d → int_le (neg_ℤ w.camera.mu) (d -ℤ (cam w.pose p).z) ≡ b → cond b (averaged w.camera.mu n (d -ℤ (cam w.pose p).z) x) x ≡ x
+    by_test d true found e = absurd (unmet (record { d = d; depth = found; near = le_tells _ _ e }))
+    by_test d false found e = refl
+
+    by_depth : (o : Option ℤ) → depth_behind w (cam w.pose p) ≡ o → seen w.camera.mu n (cam w.pose p).z x o ≡ x
+    by_depth None found = refl
+    by_depth (Some d) found = by_test d (int_le (neg_ℤ w.camera.mu) (d -ℤ (cam w.pose p).z)) found refl
+
+-- a pixel with a depth that lies behind a point
+behind_is : (w : View) (c : Vec3) (o : Option (ℕ × ℕ)) (d : ℤ) → project w.camera c ≡ o → option_and_then (λ (q : ℕ × ℕ). depth_at w q.0 q.1) o ≡ Some d → (q : ℕ × ℕ) × (project w.camera c ≡ Some q) × (depth_at w q.0 q.1 ≡ Some d)
+behind_is w c None d e f = absurd (let g : ◌≡◌ {A = Option ℤ} None (Some d) = f in cc)
+behind_is w c (Some q) d e f = (q, e, f)
+
+-- a depth that a pixel shows is at most the greatest one
+pub shown_within : (k : CameraFields) (raw : ℕ) (d : ℤ) → depth_of k raw ≡ Some d → d ≤ℤ k.far
+shown_within k raw d e = by_zero (raw == 0) e
+  where
+    some_is : (x y : ℤ) → ◌≡◌ {A = Option ℤ} (Some x) (Some y) → x ≡ y
+    some_is x y e = cc
+
+    by_valid : (b : Bool) (x : ℤ) → within k.near k.far x ≡ b → cond b (Some x) None ≡ Some d → d ≤ℤ k.far
+    by_valid true x t e = subst (λ (z : ℤ). z ≤ℤ k.far) (some_is x d e) (between k.near k.far x t).1
+    by_valid false x t e = absurd (let g : ◌≡◌ {A = Option ℤ} None (Some d) = e in cc)
+
+    by_zero : (b : Bool) → cond b None (valid_depth k (pos raw *ℤ k.unit)) ≡ Some d → d ≤ℤ k.far
+    by_zero true e = absurd (let g : ◌≡◌ {A = Option ℤ} None (Some d) = e in cc)
+    by_zero false e = by_valid (within k.near k.far (pos raw *ℤ k.unit)) (pos raw *ℤ k.unit) refl e
+
+-- what a frame meets projects inside the image at a depth that it may touch
+pub met_is_met : (w : View) (p : Vec3) → Meets w p → IsMetAt w.camera (cam w.pose p)
+met_is_met w p m =
+    let c = cam w.pose p in
+    let found = behind_is w c (project w.camera c) m.d refl m.depth in
+    met_by_pixel w.camera c found.0 found.1 (deep w.camera.far w.camera.mu m.d c.z (shown_within w.camera (sample_at w.depths found.0.0 found.0.1) m.d found.2) m.near)
+  where
+    deep : (far mu d z : ℤ) → d ≤ℤ far → (neg_ℤ mu) ≤ℤ (d -ℤ z) → z ≤ℤ (far +ℤ mu)
+    deep far mu d z h k = omega (arith, ints)
+
+pub unseen_is_not_met : (w : View) (b : BlockKey) (i : ℕ) → IsView w → i < 512 → may_be_seen w.camera w.pose b ≡ false → ¬ Meets w (point_of w.camera.voxel b i)
+unseen_is_not_met w b i o below unseen = λ m. unseen_meets_none w.camera w.pose b o.camera.ranges o.pose.range unseen i below (met_is_met w (point_of w.camera.voxel b i) m)
+
+pub inactive_is_not_met : (w : View) (b : BlockKey) (i : ℕ) → IsView w → i < 512 → is_active w.camera w.pose b ≡ false → ¬ Meets w (point_of w.camera.voxel b i)
+inactive_is_not_met w b i o below inactive = λ m. inactive_meets_none w.camera w.pose b o.camera.ranges o.camera.sphere o.pose.range inactive i below (met_is_met w (point_of w.camera.voxel b i) m)
+
+pub active_by_met : (w : View) (b : BlockKey) (i : ℕ) → IsView w → i < 512 → Meets w (point_of w.camera.voxel b i) → IsTrue (is_active w.camera w.pose b)
+active_by_met w b i o below m = met_is_active w.camera w.pose b i o.camera.ranges o.camera.sphere o.pose.range below (met_is_met w (point_of w.camera.voxel b i) m)
+
+-- a block none of whose voxels is met stays
+pub none_met_stays : (w : View) (n : ℕ) (b : BlockKey) (voxels : List Voxel) → length voxels ≡ 512 → ((i : ℕ) → i < 512 → ¬ Meets w (point_of w.camera.voxel b i)) → updated w n b voxels ≡ voxels
+none_met_stays w n b voxels long none = by_index-unchanged (λ i x. update w n (point_of w.camera.voxel b i) x) voxels (λ i x is. unmet_stays w n (point_of w.camera.voxel b i) x (none i (omega (arith, long, slice_get_within voxels i x is))))
+
+-- a block that meets none stays
+pub meets_none_stays : (w : View) (n : ℕ) (b : BlockKey) (voxels : List Voxel) → length voxels ≡ 512 → MeetsNone w.camera w.pose b → voxels ≡ updated w n b voxels
+meets_none_stays w n b voxels long none = sym (none_met_stays w n b voxels long (λ i below m. none i below (met_is_met w (point_of w.camera.voxel b i) m)))
+
+pub unseen_stays : (w : View) (n : ℕ) (b : BlockKey) (voxels : List Voxel) → IsView w → length voxels ≡ 512 → may_be_seen w.camera w.pose b ≡ false → updated w n b voxels ≡ voxels
+unseen_stays w n b voxels o long unseen = none_met_stays w n b voxels long (λ i below. unseen_is_not_met w b i o below unseen)
+
+pub inactive_stays : (w : View) (n : ℕ) (b : BlockKey) (voxels : List Voxel) → IsView w → length voxels ≡ 512 → is_active w.camera w.pose b ≡ false → updated w n b voxels ≡ voxels
+inactive_stays w n b voxels o long inactive = none_met_stays w n b voxels long (λ i below. inactive_is_not_met w b i o below inactive)

@@ -1,0 +1,67 @@
+-- Machine numbers that are read as they are.
+use Rattle.std.proofs.Common.{◌≡◌, refl, arith}
+use Rattle.std.specs.Prelude.{ℤ, pos, negsuc, ◌+ℤ◌, ◌≤ℤ◌}
+use Rattle.std.proofs.lemmas.Int.{ints, to_z-of_z}
+use mir.Val.{SFits, to_z, of_z}
+use mir.Syntax.{w16, w32, w64}
+use Rattle.fixed_geom.specs.Vectors.{IsWithin}
+use Rattle.camera.proofs.Readings.{read, fits64}
+
+-- what the machine reads of a number of 16 and of 32 bits
+abbrev pub read16 : ℤ → ℤ
+read16 z = to_z w16 (of_z w16 z)
+
+abbrev pub read32 : ℤ → ℤ
+read32 z = to_z w32 (of_z w32 z)
+
+pub fits16 : (z : ℤ) → IsWithin (pos 32767) z → SFits w16 z
+fits16 (pos n) w = record { sfits = omega (arith, ints) }
+fits16 (negsuc n) w = record { sfits = omega (arith, ints) }
+
+pub same16 : (z : ℤ) → IsWithin (pos 32767) z → read16 z ≡ z
+same16 z w = to_z-of_z w16 z (fits16 z w)
+
+-- a number of 32 or of 64 bits that is a small number, cast to 16 bits
+pub cast32_fits : (r z : ℤ) → r ≡ z → IsWithin (pos 32767) z → SFits w16 (read32 r)
+cast32_fits r z e w =
+    let one : read32 r ≡ r = omega (arith, ints) in
+    rw (one, e) (fits16 z w)
+
+pub cast32_is : (r z : ℤ) → r ≡ z → IsWithin (pos 32767) z → read16 (read32 r) ≡ z
+cast32_is r z e w =
+    let one : read32 r ≡ r = omega (arith, ints) in
+    rw (one, e) (same16 z w)
+
+pub cast64_fits : (r z : ℤ) → r ≡ z → IsWithin (pos 32767) z → SFits w16 (read r)
+cast64_fits r z e w =
+    let one : read r ≡ r = omega (arith, ints) in
+    rw (one, e) (fits16 z w)
+
+pub cast64_is : (r z : ℤ) → r ≡ z → IsWithin (pos 32767) z → read16 (read r) ≡ z
+cast64_is r z e w =
+    let one : read r ≡ r = omega (arith, ints) in
+    rw (one, e) (same16 z w)
+
+-- ---- sums and products of 64 bits
+
+-- what is within 2^60 is read as it is
+pub plain_read : (n z : ℤ) → n ≤ℤ pos 1152921504606846976 → IsWithin n z → read z ≡ z
+plain_read n z h w = omega (arith, ints)
+
+-- two sums in a row
+pub sums_read : (k s t a b : ℤ) → IsWithin (pos 36028797018963968) k → IsWithin (pos 1125899906842624) s → IsWithin (pos 1125899906842624) t → s ≡ a → t ≡ b → read (read (read k +ℤ read s) +ℤ read t) ≡ k +ℤ a +ℤ b
+sums_read k s t a b wk ws wt e f =
+    let one : read k ≡ k = omega (arith, ints) in
+    let two : read s ≡ s = omega (arith, ints) in
+    let three : read t ≡ t = omega (arith, ints) in
+    let four : read (k +ℤ s) ≡ k +ℤ s = omega (arith, ints) in
+    let five : read (k +ℤ s +ℤ t) ≡ k +ℤ s +ℤ t = omega (arith, ints) in
+    rw (one, two, three, four, five, e, f) refl
+
+pub sums_fit : (k s t : ℤ) → IsWithin (pos 36028797018963968) k → IsWithin (pos 1125899906842624) s → IsWithin (pos 1125899906842624) t → SFits w64 (read (read k +ℤ read s) +ℤ read t)
+sums_fit k s t wk ws wt =
+    let one : read k ≡ k = omega (arith, ints) in
+    let two : read s ≡ s = omega (arith, ints) in
+    let three : read t ≡ t = omega (arith, ints) in
+    let four : read (k +ℤ s) ≡ k +ℤ s = omega (arith, ints) in
+    rw (one, two, three, four) (fits64 (k +ℤ s +ℤ t) (record { low = omega (arith, ints); high = omega (arith, ints) }))

@@ -1,0 +1,16 @@
+//! The update of a block by a frame.
+#![tactic(auto)]
+
+mod averaging;
+mod corner;
+mod forms;
+pub mod laws;
+pub mod plain;
+mod projection;
+mod update;
+mod walk;
+
+pub use update::update_block;
+
+#[cfg(test)]
+mod tests;

@@ -1,0 +1,149 @@
+ghost use Rattle.std.specs.Prelude.{◌≡◌, ◌^◌, ◌≤◌, ◌<◌, ◌+◌, ◌*◌, pos, neg_ℤ, ◌≤ℤ◌, ◌<ℤ◌, IfSome, List};
+ghost use Rattle.fixed_geom.specs.Poses.{Pose, cam};
+ghost use Rattle.fixed_geom.specs.Vectors.{AreWithin, IsWithin};
+ghost use Rattle.voxel_block.specs.declared.key.BlockKey.{BlockKey};
+ghost use Rattle.voxel_block.specs.declared.voxel.Voxel.{Voxel};
+ghost use Rattle.camera.specs.Cameras.{project as pixel_of};
+ghost use Rattle.camera.specs.Grid.{point_of};
+ghost use Rattle.depth_view.specs.Views.{FitsImage, view_of};
+ghost use Rattle.fuse_kernel.specs.Updates.{depth_behind as depth_behind_of, updated};
+ghost use Rattle.fuse_kernel.specs.Walks.{IsShort, eta_of, lead as lead_of, updated_to, walk_of};
+
+use crate::averaging::{averaged, is_seen};
+use crate::projection::project;
+use crate::walk::Walk;
+use camera::Camera;
+use depth_frame::DepthFrame;
+use depth_view::depth_at;
+use fixed_geom::{Pose, Vec3};
+use voxel_block::{Block, BlockKey};
+
+/// Updates each voxel of a block by a frame: a voxel that the frame meets becomes the mean of what it was and what the
+/// frame measures there, and weighs one more, at most `max_weight`. Every other voxel stays.
+pub fn update_block(
+    block: &mut Block,
+    key: BlockKey,
+    camera: &Camera,
+    pose: &Pose,
+    frame: &DepthFrame,
+    max_weight: u8,
+)
+    requires fits { FitsImage camera.now frame.now }
+    requires weight { 1 ≤ max_weight }
+    ensures { block.new ≡ updated (view_of camera.now pose.now frame.now) max_weight key block.old }
+{
+    if !camera.may_see(pose, key) {
+        block.has_all_voxels();
+        return;
+    }
+    let walk = Walk::make(camera, pose, key);
+    update_rows(block, &walk, camera, frame, max_weight);
+}
+
+/// Updates the voxels of a block by a walk over it.
+fn update_rows(block: &mut Block, walk: &Walk, camera: &Camera, frame: &DepthFrame, max_weight: u8)
+    requires fits { FitsImage camera.now frame.now }
+    requires weight { 1 ≤ max_weight }
+    requires walk { IsShort walk.now }
+    ensures { (m : Pose) (b : BlockKey) → walk.now ≡ walk_of camera.now.voxel m b → block.new ≡ updated (view_of camera.now m frame.now) max_weight b block.old }
+{
+    block.has_all_voxels();
+    for row in 0..64 {
+        update_row(block, row, walk, camera, frame, max_weight);
+    }
+}
+
+/// Updates the 8 voxels of a row along x.
+fn update_row(
+    block: &mut Block,
+    row: u16,
+    walk: &Walk,
+    camera: &Camera,
+    frame: &DepthFrame,
+    max_weight: u8,
+)
+    requires fits { FitsImage camera.now frame.now }
+    requires weight { 1 ≤ max_weight }
+    requires walk { IsShort walk.now }
+    requires row { row < 64 }
+    ensures { (m : Pose) (b : BlockKey) (voxels : List Voxel) → walk.now ≡ walk_of camera.now.voxel m b
+        → block.old ≡ updated_to (view_of camera.now m frame.now) max_weight b (8 * row) voxels
+        → block.new ≡ updated_to (view_of camera.now m frame.now) max_weight b (8 * (row + 1)) voxels }
+{
+    let mut forms = walk.row(row);
+    for x in 0..8 {
+        update_voxel(block, 8 * row + x, forms.point(), camera, frame, max_weight);
+        forms = forms.plus(walk.x);
+    }
+}
+
+/// Updates a voxel, by its camera point. It is read only where the frame meets it.
+fn update_voxel(
+    block: &mut Block,
+    i: u16,
+    point: Vec3,
+    camera: &Camera,
+    frame: &DepthFrame,
+    max_weight: u8,
+)
+    requires fits { FitsImage camera.now frame.now }
+    requires weight { 1 ≤ max_weight }
+    requires index { i < 512 }
+    requires point { AreWithin (pos (2 ^ 26)) point }
+    ensures { (m : Pose) (b : BlockKey) (voxels : List Voxel) → point ≡ cam m (point_of camera.now.voxel b i)
+        → block.old ≡ updated_to (view_of camera.now m frame.now) max_weight b i voxels
+        → block.new ≡ updated_to (view_of camera.now m frame.now) max_weight b (i + 1) voxels }
+{
+    match eta_at(camera, frame, point) {
+        Some(eta) => {
+            let voxel = averaged(camera.fields().mu, max_weight, eta, block.get(i));
+            block.set(i, voxel);
+        }
+        None => block.has_all_voxels(),
+    }
+}
+
+/// How far a camera point lies in front of what its pixel shows. `None` where the frame does not meet it.
+fn eta_at(camera: &Camera, frame: &DepthFrame, point: Vec3) -> Option<i64>
+    requires fits { FitsImage camera.now frame.now }
+    requires point { AreWithin (pos (2 ^ 26)) point }
+    ensures value { (m : Pose) → result ≡ eta_of (view_of camera.now m frame.now) point }
+    ensures bound { IfSome result (λ eta. IsWithin (pos (2 ^ 43)) eta) }
+    ensures front { IfSome result (λ eta. (neg_ℤ camera.now.mu) ≤ℤ eta) }
+{
+    let depth = depth_behind(camera, frame, point)?;
+    lead(camera.fields().mu, point.z, depth)
+}
+
+/// The depth in the pixel that a camera point projects to.
+fn depth_behind(camera: &Camera, frame: &DepthFrame, point: Vec3) -> Option<i64>
+    requires fits { FitsImage camera.now frame.now }
+    requires point { AreWithin (pos (2 ^ 26)) point }
+    ensures value { (m : Pose) → result ≡ depth_behind_of (view_of camera.now m frame.now) point }
+    ensures range { IfSome result (λ d. (pos 1 ≤ℤ d) × (d ≤ℤ camera.now.far)) }
+{
+    let (u, v) = pixel(camera, point)?;
+    depth_at(camera, frame, u, v)
+}
+
+/// The pixel (column, row) that a camera point projects to.
+fn pixel(camera: &Camera, point: Vec3) -> Option<(u32, u32)>
+    requires { AreWithin (pos (2 ^ 26)) point }
+    ensures value { result ≡ pixel_of camera.now point }
+    ensures inside { IfSome result (λ p. ((pos p.0) <ℤ camera.now.width) × ((pos p.1) <ℤ camera.now.height)) }
+{
+    project(&camera.fields(), point)
+}
+
+/// How far the depth `z` lies in front of `depth`. `None` where it lies more than `mu` behind it.
+fn lead(mu: i64, z: i64, depth: i64) -> Option<i64>
+    requires mu { IsWithin (pos 1000000) mu }
+    requires z { IsWithin (pos (2 ^ 26)) z }
+    requires depth { IsWithin (pos 16000000) depth }
+    ensures value { result ≡ lead_of mu z depth }
+    ensures bound { IfSome result (λ eta. IsWithin (pos (2 ^ 43)) eta) }
+    ensures front { IfSome result (λ eta. (neg_ℤ mu) ≤ℤ eta) }
+{
+    let eta = depth - z;
+    if is_seen(mu, eta) { Some(eta) } else { None }
+}

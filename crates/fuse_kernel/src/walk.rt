@@ -1,0 +1,99 @@
+//! A walk over the voxels of a block: the forms of its corner, and what a step along each axis of the block adds.
+ghost use Rattle.std.specs.Prelude.{◌≡◌, ◌^◌, ◌<◌, ◌/◌, ◌%◌, pos, ◌+ℤ◌, ◌*ℤ◌, ◌≤ℤ◌, IsTrue};
+ghost use Rattle.fixed_geom.specs.Poses.{entry_bound};
+ghost use Rattle.fixed_geom.specs.Vectors.{IsWithin, vec};
+ghost use Rattle.camera.specs.Visibility.{may_be_seen};
+ghost use Rattle.fuse_kernel.specs.Walks.{FormsWithin, IsShort, forms_at, step_by, walk_of};
+
+use crate::corner::corner;
+use crate::forms::Forms;
+use camera::Camera;
+use fixed_geom::{Pose, PoseRows};
+use voxel_block::BlockKey;
+
+/// The forms of a block's corner, and what a step of one voxel along each axis of the block adds to them.
+#[derive(Clone, Copy)]
+pub struct Walk {
+    pub corner: Forms,
+    pub x: Forms,
+    pub y: Forms,
+    pub z: Forms,
+}
+
+impl Walk {
+    /// The walk over a block that may be seen.
+    pub fn make(camera: &Camera, pose: &Pose, key: BlockKey) -> Walk
+        requires { IsTrue (may_be_seen camera.now pose.now key) }
+        ensures value { result ≡ walk_of camera.now.voxel pose.now key }
+        ensures bound { IsShort result }
+    {
+        let PoseRows { r, .. } = pose.rows();
+        let voxel = camera.fields().voxel;
+        Walk {
+            corner: corner(camera, pose, key),
+            x: step(voxel, r[0], r[1], r[2]),
+            y: step(voxel, r[3], r[4], r[5]),
+            z: step(voxel, r[6], r[7], r[8]),
+        }
+    }
+
+    /// The forms of the first voxel of a row along x. A block has 64 of them, 8 for each z.
+    pub fn row(&self, row: u16) -> Forms
+        requires bound { IsShort self.now }
+        requires row { row < 64 }
+        ensures { result ≡ forms_at self.now (pos 0) (pos (row % 8)) (pos (row / 8)) }
+    {
+        let (y, z) = (i64::from(row % 8), i64::from(row / 8));
+        Forms {
+            x: row_on(self.corner.x, self.y.x, y, self.z.x, z),
+            y: row_on(self.corner.y, self.y.y, y, self.z.y, z),
+            z: row_on(self.corner.z, self.y.z, y, self.z.z, z),
+        }
+    }
+}
+
+/// The form of a row's first voxel on one axis: `y` steps of `b` and `z` steps of `c` from the corner's.
+fn row_on(corner: i64, b: i64, y: i64, c: i64, z: i64) -> i64
+    requires corner { IsWithin (pos (2 ^ 55)) corner }
+    requires b { IsWithin (pos (2 ^ 47)) b }
+    requires y { IsWithin (pos 8) y }
+    requires c { IsWithin (pos (2 ^ 47)) c }
+    requires z { IsWithin (pos 8) z }
+    ensures { result ≡ corner +ℤ y *ℤ b +ℤ z *ℤ c }
+{
+    corner + steps(y, b) + steps(z, c)
+}
+
+fn steps(n: i64, step: i64) -> i64
+    requires n { IsWithin (pos 8) n }
+    requires step { IsWithin (pos (2 ^ 47)) step }
+    ensures value { result ≡ n *ℤ step }
+    ensures bound { IsWithin (pos (2 ^ 50)) result }
+{
+    n * step
+}
+
+/// What a step of one voxel adds to the forms, by the entries of a row of the rotation.
+fn step(voxel: i64, x: i64, y: i64, z: i64) -> Forms
+    requires voxel { IsWithin (pos 100000) voxel }
+    requires x { IsWithin entry_bound x }
+    requires y { IsWithin entry_bound y }
+    requires z { IsWithin entry_bound z }
+    ensures value { result ≡ step_by voxel (vec x y z) }
+    ensures bound { FormsWithin (pos (2 ^ 47)) result }
+{
+    Forms {
+        x: step_on(voxel, x),
+        y: step_on(voxel, y),
+        z: step_on(voxel, z),
+    }
+}
+
+fn step_on(voxel: i64, entry: i64) -> i64
+    requires voxel { IsWithin (pos 100000) voxel }
+    requires entry { IsWithin entry_bound entry }
+    ensures value { result ≡ voxel *ℤ entry }
+    ensures bound { IsWithin (pos (2 ^ 47)) result }
+{
+    voxel * entry
+}
