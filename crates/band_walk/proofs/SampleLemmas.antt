@@ -1,14 +1,11 @@
 -- The samples of a segment: they lie between its ends, and their blocks fit 16 bits.
-use Rattle.std.proofs.Common.{◌≡◌, ℕ, ◌+◌, ◌*◌, ◌/◌, ◌≤◌, ◌<◌, arith}
+use Rattle.std.proofs.Common.{◌≡◌, arith}
 use Rattle.std.specs.Prelude.{ℤ, pos, neg_ℤ, ◌+ℤ◌, ◌-ℤ◌, ◌*ℤ◌, ◌≤ℤ◌, ◌<ℤ◌}
 use Rattle.std.proofs.lemmas.Int.{ints, by_lt_z}
-use Rattle.std.proofs.lemmas.Nat.{div_below}
 use Rattle.fixed_geom.specs.Division.{IsFloor, floor_div}
-use Rattle.fixed_geom.specs.declared.vector.Vec3.{Vec3}
-use Rattle.fixed_geom.specs.Vectors.{IsWithin, AreWithin}
+use Rattle.fixed_geom.specs.Vectors.{IsWithin}
 use Rattle.fixed_geom.proofs.Whole.{mul_neg, mul_turn, mul_order}
 use Rattle.fixed_geom.proofs.Floors.{floor_is, floor_above, floor_below}
-use Rattle.band_walk.specs.Bands.{segment_point}
 
 -- ---- samples
 
@@ -52,19 +49,6 @@ sample_on_within w a e n j j0 jn n1 v i =
 
     down : (w a e q : ℤ) → IsWithin w a → IsWithin w e → ((e -ℤ a) ≤ℤ q) × (q ≤ℤ pos 0) → IsWithin w (a +ℤ q)
     down w a e q v i t = record { low = omega (arith, ints, t.0, t.1); high = omega (arith, ints, t.0, t.1) }
-
-pub sample_within : (w : ℤ) (a e : Vec3) (n j : ℕ) → 1 ≤ n → j ≤ n → AreWithin w a → AreWithin w e → AreWithin w (segment_point a e n j)
-sample_within w a e n j n1 jn v i = record {
-  x = sample_on_within w a.x e.x (pos n) (pos j) (omega (arith, ints)) (omega (arith, ints)) (omega (arith, ints)) v.x i.x;
-  y = sample_on_within w a.y e.y (pos n) (pos j) (omega (arith, ints)) (omega (arith, ints)) (omega (arith, ints)) v.y i.y;
-  z = sample_on_within w a.z e.z (pos n) (pos j) (omega (arith, ints)) (omega (arith, ints)) (omega (arith, ints)) v.z i.z;
-}
-
--- how many steps the samples of a segment take at most
-pub few_steps : (m s : ℕ) → m ≤ 302012452 → 1000 ≤ s → 1 + 2 * m / (8 * s) ≤ 75504
-few_steps m s h k =
-    let below : 2 * m / (8 * s) < 75504 = div_below (2 * m) (8 * s) 75504 (omega arith) (omega arith) in
-    omega arith
 
 -- ---- blocks
 

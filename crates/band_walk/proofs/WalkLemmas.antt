@@ -1,5 +1,5 @@
 -- The samples of a segment and the pixels of a row, one after the other.
-use Rattle.std.proofs.Common.{◌≡◌, ℕ, ◌+◌, ◌-◌, ◌≤◌, ◌<◌, zero, suc, ap, ◌∙◌, arith, List, [], ◌∷◌, ◌++◌, map, zero-add}
+use Rattle.std.proofs.Common.{◌≡◌, ℕ, ◌+◌, ◌-◌, ◌<◌, zero, suc, ap, ◌∙◌, arith, List, [], ◌∷◌, ◌++◌, map, zero-add}
 use Rattle.std.specs.List.{range_with_len, flat_map}
 use Rattle.std.proofs.lemmas.List.{append-nil}
 use Rattle.std.proofs.lemmas.Grind.{flat_map-append}
@@ -13,10 +13,7 @@ first_more a (suc n) j e = ap (λ is. a ∷ is) (first_more (a + 1) n j (omega a
 pub flat_map_more : {A : Type 0} (f : ℕ → List A) (n : ℕ) → flat_map f (range_with_len 0 (suc n)) ≡ flat_map f (range_with_len 0 n) ++ f n
 flat_map_more f n = ap (flat_map f) (first_more 0 n n (zero-add n)) ∙ flat_map-append f (range_with_len 0 n) (n ∷ []) ∙ ap (λ xs. flat_map f (range_with_len 0 n) ++ xs) (append-nil (f n))
 
--- from j to below m: nothing where j has come there, else j and the others
-pub range_end : (j m : ℕ) → m ≤ j → range_with_len j (m - j) ≡ []
-range_end j m h = let e : m - j ≡ 0 = omega arith in ap (range_with_len j) e
-
+-- from j to below m: j and the others
 pub range_next : (j m : ℕ) → j < m → range_with_len j (m - j) ≡ j ∷ range_with_len (j + 1) (m - (j + 1))
 range_next j m h = let e : m - j ≡ suc (m - (j + 1)) = omega arith in ap (range_with_len j) e
 
@@ -27,9 +24,3 @@ map_next f j m h = ap (map f) (range_next j m h)
 
 pub flat_map_next : {A : Type 0} (f : ℕ → List A) (j m : ℕ) → j < m → flat_map f (range_with_len j (m - j)) ≡ f j ++ flat_map f (range_with_len (j + 1) (m - (j + 1)))
 flat_map_next f j m h = ap (flat_map f) (range_next j m h)
-
-pub map_end : {A : Type 0} (f : ℕ → A) (j m : ℕ) → m ≤ j → map f (range_with_len j (m - j)) ≡ []
-map_end f j m h = ap (map f) (range_end j m h)
-
-pub flat_map_end : {A : Type 0} (f : ℕ → List A) (j m : ℕ) → m ≤ j → flat_map f (range_with_len j (m - j)) ≡ []
-flat_map_end f j m h = ap (flat_map f) (range_end j m h)

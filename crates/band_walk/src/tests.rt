@@ -42,7 +42,7 @@ const NEAR_PIXEL: CameraFields = CameraFields {
     ..PIXEL
 };
 
-// Two pixels, the second of which looks half a turn's quarter to the side.
+// Two pixels, the second of which looks an eighth of a turn to the side.
 const WIDE: CameraFields = CameraFields {
     width: 2,
     radius: 4000000,

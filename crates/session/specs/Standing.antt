@@ -46,7 +46,7 @@ pub record Stands (h : Held) : Type 0 where
   -- the heap has as many cells as the configuration says
   pub cells : length h.places.heap.cells ≡ h.config.heap_blocks
 
--- what the session's type keeps, of which the rest follows
+-- what the session's type keeps, of which the rest follows: besides, each block of the map has 512 voxels
 pub record IsSettled (h : Held) : Type 0 where
   pub placed : IsPlaced h.places
   pub whole : HasWholeBlocks (blocks_of h.places)
