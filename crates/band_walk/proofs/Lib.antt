@@ -4,4 +4,3 @@ mod Keys
 mod Machine
 mod SampleLemmas
 mod WalkLemmas
-mod WorldLemmas

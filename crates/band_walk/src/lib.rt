@@ -8,7 +8,6 @@ mod ray;
 mod row;
 mod segment;
 mod walk;
-mod world;
 
 pub use walk::BandWalk;
 

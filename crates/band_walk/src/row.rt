@@ -2,13 +2,12 @@ ghost use Rattle.std.specs.Prelude.{◌≡◌, ◌<◌, pos, ◌+ℤ◌, ◌-ℤ
 ghost use Rattle.std.specs.Int.{int_max};
 ghost use Rattle.fixed_geom.specs.Poses.{world};
 ghost use Rattle.fixed_geom.specs.Vectors.{AreWithin};
-ghost use Rattle.camera.specs.Cameras.{HasRanges, IsCamera, deepest, ray as ray_of};
+ghost use Rattle.camera.specs.Cameras.{HasRanges, deepest, ray as ray_of};
 ghost use Rattle.band_walk.specs.Bands.{pixel_blocks, segment_blocks, segment_end, segment_start};
 ghost use Rattle.band_walk.specs.Left.{IsRow, IsSegment, segment_left, view_of_row};
 
 use crate::ray::{ray_on, ray_part};
 use crate::segment::{Segment, block_part};
-use crate::world::near_world;
 use camera::{Camera, CameraFields};
 use depth_frame::DepthFrame;
 use depth_view::depth_at;
@@ -97,7 +96,7 @@ impl<'a> Row<'a> {
         ensures value { result ≡ world self.now.pose.now (ray_of self.now.camera.now (pos u) (pos self.now.v) z) }
         ensures bound { AreWithin (pos 151006226) result }
     {
-        near_world(self.pose, self.ray(u, z))
+        self.pose.near_world(self.ray(u, z))
     }
 
     /// The point at depth `z` on a pixel's ray, in the camera's micrometres.
@@ -108,7 +107,6 @@ impl<'a> Row<'a> {
         requires deep { z ≤ℤ deepest self.now.camera.now }
         ensures value { result ≡ ray_of self.now.camera.now (pos u) (pos self.now.v) z }
         ensures bound { AreWithin (pos 17000000) result }
-        ensures camera { IsCamera self.now.camera.now }
     {
         let camera = self.camera.fields();
         Vec3 {

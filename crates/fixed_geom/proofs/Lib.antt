@@ -2,6 +2,7 @@ pub mod Decimals
 pub mod Dots
 pub mod Floors
 pub mod Means
+pub mod NearWorlds
 pub mod PoseTests
 pub mod RoundTrip
 pub mod Segments

@@ -2,7 +2,7 @@
 use Rattle.std.proofs.Common.{ℕ, ◌≤◌, arith}
 use Rattle.std.specs.Prelude.{ℤ, pos, ◌+ℤ◌, ◌-ℤ◌, ◌*ℤ◌, unsigned_abs}
 use Rattle.std.proofs.lemmas.Int.{ints}
-use Rattle.fixed_geom.specs.Division.{floor_div}
+use Rattle.fixed_geom.specs.Division.{IsFloor, floor_div}
 use Rattle.fixed_geom.specs.declared.vector.Vec3.{Vec3}
 use Rattle.fixed_geom.specs.Vectors.{IsWithin, AreWithin, cross, dot, minus}
 use Rattle.fixed_geom.specs.Poses.{Pose, form, unit, cam_on, cam, world, entry_bound, translation_bound, HasPoseRange, row_x, row_y, row_z, column_x, column_y, column_z}
@@ -38,12 +38,23 @@ way_within t p far near = record { x = axis p.x t.x near.x far.x; y = axis p.y t
     axis : (p t : ℤ) → IsWithin wide p → IsWithin translation_bound t → IsWithin way_wide (p -ℤ t)
     axis p t v w = record { low = omega (arith, ints); high = omega (arith, ints) }
 
--- the form has at most 72 bits
-pub form_within : (c t p : Vec3) → AreWithin entry_bound c → AreWithin translation_bound t → AreWithin wide p → IsWithin (pos 4722366482869645213696) (form c t p)
-form_within c t p small far near = plain (form c t p) (within_dot entry_bound way_wide c (minus p t) small (way_within t p far near))
+-- the product of a row or a column and such a way has at most 72 bits
+pub line_within : (line way : Vec3) → AreWithin entry_bound line → AreWithin way_wide way → IsWithin (pos 4722366482869645213696) (dot line way)
+line_within line way small near = plain (dot line way) (within_dot entry_bound way_wide line way small near)
   where
     plain : (x : ℤ) → IsWithin (pos 3 *ℤ (entry_bound *ℤ way_wide)) x → IsWithin (pos 4722366482869645213696) x
     plain x w = record { low = omega (arith, ints); high = omega (arith, ints) }
+
+-- so has the form
+pub form_within : (c t p : Vec3) → AreWithin entry_bound c → AreWithin translation_bound t → AreWithin wide p → IsWithin (pos 4722366482869645213696) (form c t p)
+form_within c t p small far near = line_within c (minus p t) small (way_within t p far near)
+
+-- and its floor at most 42 bits
+pub whole_within : (x : ℤ) → IsWithin (pos 4722366482869645213696) x → IsWithin wider (floor_div x unit)
+whole_within x w = plain (floor_div x unit) (floor_is x unit unit_positive)
+  where
+    plain : (q : ℤ) → IsFloor x unit q → IsWithin wider q
+    plain q is = record { low = omega (arith, ints, is.below, is.above, w.low, w.high); high = omega (arith, ints, is.below, is.above, w.low, w.high) }
 
 -- a way along a row or a column has at most 42 bits
 pub along_within : (line way : Vec3) → AreWithin entry_bound line → AreWithin way_wide way → IsWithin along_wide (floor_div (dot line way) unit)

@@ -7,7 +7,7 @@ use mir.Syntax.{w64, w128}
 use Rattle.fixed_geom.specs.declared.vector.Vec3.{Vec3}
 use Rattle.fixed_geom.specs.Division.{floor_div}
 use Rattle.fixed_geom.specs.Vectors.{IsWithin, vec, dot, minus}
-use Rattle.fixed_geom.specs.Poses.{entry_bound, translation_bound, unit, cam_on}
+use Rattle.fixed_geom.specs.Poses.{entry_bound, translation_bound, unit, cam_on, form}
 use Rattle.fixed_geom.proofs.Sizes.{product_within}
 
 -- numbers within 2^62 stay themselves in 64 bits
@@ -31,13 +31,13 @@ pub sum_size : (a b c : ℤ) → unsigned_abs a ≤ 2 ^ 93 → unsigned_abs b �
 sum_size a b c h i j = record { low = omega (arith, ints); high = omega (arith, ints) }
 
 -- a number of 128 bits that is a bounded number fits 64 bits, and stays itself
-pub narrow_fits : (r q : ℤ) → r ≡ q → IsWithin (pos 4397946511104) q → SFits w64 (to_z w128 (of_z w128 r))
+pub narrow_fits : (r q : ℤ) → r ≡ q → IsWithin (pos 4398046511104) q → SFits w64 (to_z w128 (of_z w128 r))
 narrow_fits r q e w =
     let is : to_z w128 (of_z w128 r) ≡ r = omega (arith, ints) in
     let wide : IsWithin (pos 4611686018427387904) q = record { low = omega (arith, ints); high = omega (arith, ints) } in
     rw (is, e) (fits64 q wide)
 
-pub narrow_is : (r q : ℤ) → r ≡ q → IsWithin (pos 4397946511104) q → to_z w64 (of_z w64 (to_z w128 (of_z w128 r))) ≡ q
+pub narrow_is : (r q : ℤ) → r ≡ q → IsWithin (pos 4398046511104) q → to_z w64 (of_z w64 (to_z w128 (of_z w128 r))) ≡ q
 narrow_is r q e w =
     let one : to_z w128 (of_z w128 r) ≡ r = omega (arith, ints) in
     let two : to_z w64 (of_z w64 r) ≡ r = omega (arith, ints) in
@@ -72,15 +72,20 @@ minor_is r p q a b c d ab bb cb db e f g = plain r p q (a *ℤ b) (c *ℤ d) (pr
 pub way_is : (r p t : ℤ) → IsWithin (pos 1099511627776) p → IsWithin translation_bound t → r ≡ to_z w64 (of_z w64 p) -ℤ to_z w64 (of_z w64 t) → to_z w64 (of_z w64 r) ≡ p -ℤ t
 way_is r p t v w e = omega (arith, ints)
 
-along_same : (z : ℤ) → IsWithin (pos 4397946511104) z → to_z w64 (of_z w64 z) ≡ z
-along_same z w = omega (arith, ints)
+-- a number within 2^72 stays itself in 128 bits
+pub form_same : (z : ℤ) → IsWithin (pos 4722366482869645213696) z → to_z w128 (of_z w128 z) ≡ z
+form_same z w = omega (arith, ints)
 
--- the coordinate of a camera point, by the entries of a column, read as 64 bits
-pub cam_is : (r a b d : ℤ) (way t p : Vec3) → IsWithin entry_bound a → IsWithin entry_bound b → IsWithin entry_bound d → way ≡ minus p t
-    → r ≡ floor_div (dot (vec (to_z w64 (of_z w64 a)) (to_z w64 (of_z w64 b)) (to_z w64 (of_z w64 d))) way) unit → IsWithin (pos 4397946511104) r
-    → to_z w64 (of_z w64 r) ≡ cam_on (vec a b d) t p
-cam_is r a b d way t p u v w e f n = along_same r n ∙ f ∙ rw (entry_same a u, entry_same b v, entry_same d w, e) refl
+-- the coordinate of a camera point, by its form, read as 64 bits
+pub cam_is : (r f : ℤ) (c t p : Vec3) → SFits w64 r → f ≡ form c t p → IsWithin (pos 4722366482869645213696) (form c t p) → r ≡ floor_div (to_z w128 (of_z w128 f)) unit → to_z w64 (of_z w64 r) ≡ cam_on c t p
+cam_is r f c t p fit e w is = to_z-of_z w64 r fit ∙ is ∙ rw (e, form_same (form c t p) w) refl
 
 -- the coordinate of a world point, read as 64 bits
 pub world_is : (r t w d : ℤ) → IsWithin translation_bound t → IsWithin (pos 4397946511104) w → w ≡ d → r ≡ to_z w64 (of_z w64 t) +ℤ to_z w64 (of_z w64 w) → to_z w64 (of_z w64 r) ≡ t +ℤ d
 world_is r t w d u v e f = omega (arith, ints)
+
+-- the form of a point on one axis, by the entries of a column, read as 128 bits
+pub form_is : (r a b d : ℤ) (way t p : Vec3) → IsWithin entry_bound a → IsWithin entry_bound b → IsWithin entry_bound d → way ≡ minus p t
+    → r ≡ dot (vec (to_z w64 (of_z w64 a)) (to_z w64 (of_z w64 b)) (to_z w64 (of_z w64 d))) way → IsWithin (pos 4722366482869645213696) r
+    → to_z w128 (of_z w128 r) ≡ form (vec a b d) t p
+form_is r a b d way t p u v w e f n = form_same r n ∙ f ∙ rw (entry_same a u, entry_same b v, entry_same d w, e) refl

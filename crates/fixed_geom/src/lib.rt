@@ -4,7 +4,9 @@
 mod bounds;
 pub mod decimal;
 pub mod division;
+pub mod forms;
 pub mod laws;
+mod near;
 pub mod pose;
 mod products;
 mod spelling;
@@ -14,5 +16,6 @@ pub mod vector;
 
 pub use decimal::{BadNumber, read_decimal};
 pub use division::{floor_div, round_div};
+pub use forms::Forms;
 pub use pose::{BadPose, Pose, PoseRows};
 pub use vector::Vec3;

@@ -1,11 +1,15 @@
 ghost use Rattle.std.specs.Prelude.{◌≡◌, ◌^◌, ◌+◌, ◌≤◌, pos, IfOk, ◌↔◌};
 ghost use Rattle.fixed_geom.specs.PoseTest.{accepted, entry, has_pose_range as has_pose_range_of, is_near_rotation as is_near_rotation_of, pose_of, rows_of};
-ghost use Rattle.fixed_geom.specs.Poses.{HasPoseRange, IsNearRotation, IsPose, cam as cam_of, entry_bound, of_rows, world as world_of};
+ghost use Rattle.fixed_geom.specs.Poses.{HasPoseRange, IsNearRotation, IsPose, cam as cam_of, column_x, column_y, column_z, entry_bound, form, of_rows, world as world_of};
 ghost use Rattle.fixed_geom.specs.Vectors.{AreWithin, vec};
 ghost use Rattle.fixed_geom.specs.declared.vector.Vec3.{Vec3};
 
 use crate::bounds::are_within;
-use crate::products::{along, are_nearly_orthogonal, is_nearly_unit, is_right_handed, moved, way};
+use crate::forms::Forms;
+use crate::near::world_on;
+use crate::products::{
+    along, are_nearly_orthogonal, is_nearly_unit, is_right_handed, moved, reach, way, whole,
+};
 use crate::vector::Vec3;
 use std::marker::Model;
 
@@ -85,18 +89,19 @@ impl Pose {
         }
     }
 
-    /// The camera point of a world point within `2^40` micrometres on each axis: the transposed
-    /// matrix times the way from the translation, each coordinate by floor.
-    pub fn cam(&self, p: Vec3) -> Vec3
+    /// The forms of a world point within `2^40` micrometres on each axis: the transposed matrix times
+    /// the way from the translation.
+    pub fn forms(&self, p: Vec3) -> Forms
         requires p { AreWithin (pos (2 ^ 40)) p }
-        ensures value { result ≡ cam_of self.now p }
-        ensures bound { AreWithin (pos (2 ^ 42)) result }
+        ensures x { result.x ≡ form (column_x self.now) self.now.t p }
+        ensures y { result.y ≡ form (column_y self.now) self.now.t p }
+        ensures z { result.z ≡ form (column_z self.now) self.now.t p }
         ensures pose { IsPose self.now }
     {
         let (x, y, z) = (self.x, self.y, self.z);
         let way = way(p, self.t);
-        Vec3 {
-            x: along(
+        Forms {
+            x: reach(
                 Vec3 {
                     x: x.x,
                     y: y.x,
@@ -104,7 +109,7 @@ impl Pose {
                 },
                 way,
             ),
-            y: along(
+            y: reach(
                 Vec3 {
                     x: x.y,
                     y: y.y,
@@ -112,7 +117,7 @@ impl Pose {
                 },
                 way,
             ),
-            z: along(
+            z: reach(
                 Vec3 {
                     x: x.z,
                     y: y.z,
@@ -120,6 +125,22 @@ impl Pose {
                 },
                 way,
             ),
+        }
+    }
+
+    /// The camera point of a world point within `2^40` micrometres on each axis: its forms, each by
+    /// floor.
+    pub fn cam(&self, p: Vec3) -> Vec3
+        requires p { AreWithin (pos (2 ^ 40)) p }
+        ensures value { result ≡ cam_of self.now p }
+        ensures bound { AreWithin (pos (2 ^ 42)) result }
+        ensures pose { IsPose self.now }
+    {
+        let forms = self.forms(p);
+        Vec3 {
+            x: whole(forms.x),
+            y: whole(forms.y),
+            z: whole(forms.z),
         }
     }
 
@@ -135,6 +156,21 @@ impl Pose {
             x: moved(self.t.x, along(self.x, c)),
             y: moved(self.t.y, along(self.y, c)),
             z: moved(self.t.z, along(self.z, c)),
+        }
+    }
+
+    /// The world point of a camera point within 17 metres on each axis: what `world` gives, by
+    /// products of 64 bits.
+    pub fn near_world(&self, c: Vec3) -> Vec3
+        requires c { AreWithin (pos 17000000) c }
+        ensures value { result ≡ world_of self.now c }
+        ensures bound { AreWithin (pos 151006226) result }
+        ensures pose { IsPose self.now }
+    {
+        Vec3 {
+            x: world_on(self.t.x, self.x, c),
+            y: world_on(self.t.y, self.y, c),
+            z: world_on(self.t.z, self.z, c),
         }
     }
 }

@@ -113,7 +113,7 @@ pub(crate) fn way(p: Vec3, t: Vec3) -> Vec3
     }
 }
 
-/// How far a way goes along a row or a column of a rotation.
+/// How far a way goes along a row or a column of a rotation, in whole micrometres.
 pub(crate) fn along(line: Vec3, way: Vec3) -> i64
     requires line { AreWithin entry_bound line }
     requires way { AreWithin (pos 1099611627776) way }
@@ -121,7 +121,26 @@ pub(crate) fn along(line: Vec3, way: Vec3) -> i64
     // 2^42 less 10^8
     ensures bound { IsWithin (pos 4397946511104) result }
 {
-    dot(line, way).div_euclid(1 << 30) as i64
+    whole(reach(line, way))
+}
+
+/// How far a way goes along a row or a column of a rotation, in units of `2^-30` micrometres.
+pub(crate) fn reach(line: Vec3, way: Vec3) -> i128
+    requires line { AreWithin entry_bound line }
+    requires way { AreWithin (pos 1099611627776) way }
+    ensures value { result ≡ dot_of line way }
+    ensures bound { IsWithin (pos (2 ^ 72)) result }
+{
+    dot(line, way)
+}
+
+/// How many whole micrometres a reach has.
+pub(crate) fn whole(reach: i128) -> i64
+    requires { IsWithin (pos (2 ^ 72)) reach }
+    ensures value { result ≡ floor_div reach unit }
+    ensures bound { IsWithin (pos (2 ^ 42)) result }
+{
+    reach.div_euclid(1 << 30) as i64
 }
 
 /// A coordinate of a point, from the translation's.

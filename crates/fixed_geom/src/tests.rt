@@ -80,6 +80,48 @@ fn points_go_to_the_camera_and_back(rt: HostRuntime) -> Result<(), BadPose> {
 }
 
 #[test]
+fn near_points_and_forms(rt: HostRuntime) -> Result<(), BadPose> {
+    let t = Vec3 {
+        x: 10,
+        y: 20,
+        z: 30,
+    };
+    let point = Vec3 {
+        x: 11,
+        y: 22,
+        z: 33,
+    };
+    let moved = Vec3 {
+        x: 21,
+        y: 42,
+        z: 63,
+    };
+    let pose = Pose::accept(&PoseRows { r: IDENTITY, t })?;
+    assert_eq!(rt; pose.near_world(point), moved);
+    // The way from the translation is (1, 2, 3).
+    let forms = Forms {
+        x: 1 << 30,
+        y: 2 << 30,
+        z: 3 << 30,
+    };
+    assert_eq!(rt; pose.forms(point), forms);
+
+    // A step along the camera's x goes 0.9998 and 0.019999 in the world; one along the world's x
+    // goes 0.9998 and -0.019999 in the camera.
+    let pose = Pose::accept(&PoseRows { r: TURN, t: ORIGIN })?;
+    let floors = Vec3 { x: -1, y: -1, z: 0 };
+    assert_eq!(rt; pose.near_world(Vec3 { x: 1, y: 0, z: 0 }), ORIGIN);
+    assert_eq!(rt; pose.near_world(Vec3 { x: -1, y: 0, z: 0 }), floors);
+    let forms = Forms {
+        x: 1073527076,
+        y: -21473763,
+        z: 0,
+    };
+    assert_eq!(rt; pose.forms(Vec3 { x: 1, y: 0, z: 0 }), forms);
+    Ok(())
+}
+
+#[test]
 fn quotients_are_floors(rt: HostRuntime) {
     let most: i128 = 1 << 125;
     assert_eq!(rt; floor_div(7, 2), 3);

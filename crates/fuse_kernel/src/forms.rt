@@ -6,8 +6,8 @@ ghost use Rattle.fuse_kernel.specs.Walks.{FormsWithin, point_by, stepped};
 
 use fixed_geom::Vec3;
 
-/// The forms of a point on the camera's three axes: its camera coordinates times `2^30`, before they are made whole
-/// micrometres.
+/// The forms of a point on the camera's three axes, in 64 bits: its camera coordinates times `2^30`, before they are made
+/// whole micrometres.
 #[derive(Clone, Copy)]
 pub struct Forms {
     pub x: i64,

@@ -1,31 +1,40 @@
-use Rattle.std.proofs.Common.{◌∙◌, ap}
-use Rattle.fixed_geom.specs.Poses.{Pose}
+use Rattle.std.proofs.Common.{◌∙◌}
+use Rattle.fixed_geom.specs.Poses.{column_x, column_y, column_z}
 use Rattle.camera.specs.Grid.{point_of}
-use Rattle.fuse_kernel.specs.Walks.{forms_of}
-use Rattle.fuse_kernel.proofs.CornerLemmas.{corner_near, form_near, form_on_x, form_on_y, form_on_z, forms_read}
+use Rattle.fuse_kernel.proofs.CornerLemmas.{corner_near, form_near, form_read, forms_read}
 use Rattle.fuse_kernel.proofs.corner.corner.Goals as goal
 
-pub form-requires-clause-near : goal.form-requires-clause-near
-form-requires-clause-near c =
-    form_near _ _ (form_on_x c.args.pose.now c.rows.result c.way-way.result (point_of c.args.camera.now.voxel c.args.key 0) c.voxel_point.result c.rows.ensures.back c.rows.ensures.pose c.way-way.ensures.value c.voxel_point.ensures.value)
-    (corner_near c.args.camera.now c.args.pose.now c.rows.result c.args.key c.rows.ensures.back c.fields-camera.ensures.camera c.rows.ensures.pose c.requires).x
+pub narrow-requires : goal.narrow-requires
+narrow-requires c =
+    let k = c.args.camera.now in
+    let m = c.args.pose.now in
+    let near = corner_near k m c.args.key c.fields-camera.ensures.camera c.forms-far.ensures.pose c.requires in
+    form_near c.forms-far.result.x (column_x m) m.t (point_of k.voxel c.args.key 0) c.voxel_point.result c.forms-far.ensures.x c.voxel_point.ensures.value near.x
 
-pub form-requires-2-clause-near : goal.form-requires-2-clause-near
-form-requires-2-clause-near c =
-    form_near _ _ (form_on_y c.args.pose.now c.rows.result c.way-way.result (point_of c.args.camera.now.voxel c.args.key 0) c.voxel_point.result c.rows.ensures.back c.rows.ensures.pose c.way-way.ensures.value c.voxel_point.ensures.value)
-    (corner_near c.args.camera.now c.args.pose.now c.rows.result c.args.key c.rows.ensures.back c.fields-camera.ensures.camera c.rows.ensures.pose c.requires).y
+pub narrow-requires-2 : goal.narrow-requires-2
+narrow-requires-2 c =
+    let k = c.args.camera.now in
+    let m = c.args.pose.now in
+    let near = corner_near k m c.args.key c.fields-camera.ensures.camera c.forms-far.ensures.pose c.requires in
+    form_near c.forms-far.result.y (column_y m) m.t (point_of k.voxel c.args.key 0) c.voxel_point.result c.forms-far.ensures.y c.voxel_point.ensures.value near.y
 
-pub form-requires-3-clause-near : goal.form-requires-3-clause-near
-form-requires-3-clause-near c =
-    form_near _ _ (form_on_z c.args.pose.now c.rows.result c.way-way.result (point_of c.args.camera.now.voxel c.args.key 0) c.voxel_point.result c.rows.ensures.back c.rows.ensures.pose c.way-way.ensures.value c.voxel_point.ensures.value)
-    (corner_near c.args.camera.now c.args.pose.now c.rows.result c.args.key c.rows.ensures.back c.fields-camera.ensures.camera c.rows.ensures.pose c.requires).z
+pub narrow-requires-3 : goal.narrow-requires-3
+narrow-requires-3 c =
+    let k = c.args.camera.now in
+    let m = c.args.pose.now in
+    let near = corner_near k m c.args.key c.fields-camera.ensures.camera c.forms-far.ensures.pose c.requires in
+    form_near c.forms-far.result.z (column_z m) m.t (point_of k.voxel c.args.key 0) c.voxel_point.result c.forms-far.ensures.z c.voxel_point.ensures.value near.z
 
 pub returns-clause-value : goal.returns-clause-value
 returns-clause-value c =
-    let p = point_of c.args.camera.now.voxel c.args.key 0 in
-    let x = form_on_x c.args.pose.now c.rows.result c.way-way.result p c.voxel_point.result c.rows.ensures.back c.rows.ensures.pose c.way-way.ensures.value c.voxel_point.ensures.value in
-    let y = form_on_y c.args.pose.now c.rows.result c.way-way.result p c.voxel_point.result c.rows.ensures.back c.rows.ensures.pose c.way-way.ensures.value c.voxel_point.ensures.value in
-    let z = form_on_z c.args.pose.now c.rows.result c.way-way.result p c.voxel_point.result c.rows.ensures.back c.rows.ensures.pose c.way-way.ensures.value c.voxel_point.ensures.value in
-    forms_read c.form.result c.form-2.result c.form-3.result _ _ _ (c.form.ensures.value ∙ x) (c.form-2.ensures.value ∙ y) (c.form-3.ensures.value ∙ z)
-    (corner_near c.args.camera.now c.args.pose.now c.rows.result c.args.key c.rows.ensures.back c.fields-camera.ensures.camera c.rows.ensures.pose c.requires)
-    ∙ ap (λ (m : Pose). forms_of m p) c.rows.ensures.back
+    let k = c.args.camera.now in
+    let m = c.args.pose.now in
+    let near = corner_near k m c.args.key c.fields-camera.ensures.camera c.forms-far.ensures.pose c.requires in
+    let p = point_of k.voxel c.args.key 0 in
+    let f = c.forms-far in
+    let same = c.voxel_point.ensures.value in
+    forms_read c.narrow.result c.narrow-2.result c.narrow-3.result _ _ _
+    (c.narrow.ensures.value ∙ form_read f.result.x (column_x m) m.t p c.voxel_point.result f.ensures.x same near.x)
+    (c.narrow-2.ensures.value ∙ form_read f.result.y (column_y m) m.t p c.voxel_point.result f.ensures.y same near.y)
+    (c.narrow-3.ensures.value ∙ form_read f.result.z (column_z m) m.t p c.voxel_point.result f.ensures.z same near.z)
+    near

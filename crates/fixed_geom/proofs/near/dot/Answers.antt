@@ -1,8 +1,8 @@
 use Rattle.std.proofs.Common.{◌∙◌, refl, subst, sym}
 use Rattle.std.specs.Prelude.{pos}
 use Rattle.fixed_geom.specs.Vectors.{IsWithin}
-use Rattle.band_walk.proofs.WorldLemmas.{product_is, two_fit, three_fit, three_sum, three_within}
-use Rattle.band_walk.proofs.world.dot.Goals as goal
+use Rattle.fixed_geom.proofs.NearWorlds.{product_is, two_fit, three_fit, three_sum, three_within}
+use Rattle.fixed_geom.proofs.near.dot.Goals as goal
 
 pub overflow_add-result : goal.overflow_add-result
 overflow_add-result c = two_fit c.times.result c.times-2.result c.times.ensures.bound c.times-2.ensures.bound
