@@ -7,7 +7,7 @@ use Rattle.std.proofs.lemmas.Int.{ints, clamps}
 use Rattle.std.proofs.lemmas.List.Elements.{Contains-append_left, Contains-append_right, Contains-append_cases}
 use Rattle.std.proofs.lemmas.List.FromFn.{length-map-range_with_len, get_or-map-range_with_len}
 use Rattle.std.proofs.lemmas.Bool.{cases_lt}
-use Rattle.depth_frame.specs.Pictures.{sample_at}
+use Rattle.depth_frame.specs.DepthMaps.{sample_at}
 use Rattle.voxel_block.specs.declared.key.BlockKey.{BlockKey}
 use Rattle.band_walk.specs.Bands.{IsInBand, band, row_blocks, row_keys, pixel_blocks, blocks_round, segment_point, segment_start, segment_end, steps_of}
 use Rattle.depth_view.specs.Views.{View, IsView, depth_at}

@@ -1,12 +1,12 @@
 ghost use Rattle.std.specs.Prelude.{◌≡◌, ◌^◌, pos, ◌≤ℤ◌, ◌<ℤ◌, ◌-ℤ◌, ◌*ℤ◌};
 ghost use Rattle.fixed_geom.specs.Vectors.{IsWithin};
-ghost use Rattle.camera.specs.Cameras.{ray_on as ray_on_of};
+ghost use Rattle.camera.specs.Cameras.{ray_axis as ray_axis_of};
 
 use crate::floor::floor_by;
 
 /// One coordinate of the point at depth `z` on the ray of pixel `u`, by the focal length and the centre on its axis,
 /// guessed from the part that 1 is of the focal length.
-pub(crate) fn ray_on(f: i64, c: i64, part: i64, u: u32, z: i64) -> i64
+pub(crate) fn ray_axis(f: i64, c: i64, part: i64, u: u32, z: i64) -> i64
     requires f { pos 1 ≤ℤ f }
     requires f_high { f ≤ℤ pos 1073741824 }
     requires c { pos 0 ≤ℤ c }
@@ -14,7 +14,7 @@ pub(crate) fn ray_on(f: i64, c: i64, part: i64, u: u32, z: i64) -> i64
     requires u { pos u <ℤ pos 2048 }
     requires front { pos 1 ≤ℤ z }
     requires deep { z ≤ℤ pos 17000000 }
-    ensures { result ≡ ray_on_of f c (pos u) z }
+    ensures { result ≡ ray_axis_of f c (pos u) z }
 {
     let aside = aside(c, u);
     floor_by(ray_guess(part, aside, z), times(aside, z), f)

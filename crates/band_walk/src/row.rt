@@ -2,11 +2,11 @@ ghost use Rattle.std.specs.Prelude.{◌≡◌, ◌<◌, pos, ◌+ℤ◌, ◌-ℤ
 ghost use Rattle.std.specs.Int.{int_max};
 ghost use Rattle.fixed_geom.specs.Poses.{world};
 ghost use Rattle.fixed_geom.specs.Vectors.{AreWithin};
-ghost use Rattle.camera.specs.Cameras.{HasRanges, deepest, ray as ray_of};
+ghost use Rattle.camera.specs.Cameras.{HasRanges, max_depth, ray as ray_of};
 ghost use Rattle.band_walk.specs.Bands.{pixel_blocks, segment_blocks, segment_end, segment_start};
 ghost use Rattle.band_walk.specs.Left.{IsRow, IsSegment, segment_left, view_of_row};
 
-use crate::ray::{ray_on, ray_part};
+use crate::ray::{ray_axis, ray_part};
 use crate::segment::{Segment, block_part};
 use camera::{Camera, CameraFields};
 use depth_frame::DepthFrame;
@@ -92,7 +92,7 @@ impl<'a> Row<'a> {
         requires row { IsRow self.now }
         requires column { u < self.now.frame.now.width }
         requires front { pos 1 ≤ℤ z }
-        requires deep { z ≤ℤ deepest self.now.camera.now }
+        requires deep { z ≤ℤ max_depth self.now.camera.now }
         ensures value { result ≡ world self.now.pose.now (ray_of self.now.camera.now (pos u) (pos self.now.v) z) }
         ensures bound { AreWithin (pos 151006226) result }
     {
@@ -104,14 +104,14 @@ impl<'a> Row<'a> {
         requires row { IsRow self.now }
         requires column { u < self.now.frame.now.width }
         requires front { pos 1 ≤ℤ z }
-        requires deep { z ≤ℤ deepest self.now.camera.now }
+        requires deep { z ≤ℤ max_depth self.now.camera.now }
         ensures value { result ≡ ray_of self.now.camera.now (pos u) (pos self.now.v) z }
         ensures bound { AreWithin (pos 17000000) result }
     {
         let camera = self.camera.fields();
         Vec3 {
-            x: ray_on(camera.fx, camera.cx, self.parts.across, u, z),
-            y: ray_on(camera.fy, camera.cy, self.parts.down, self.v, z),
+            x: ray_axis(camera.fx, camera.cx, self.parts.across, u, z),
+            y: ray_axis(camera.fy, camera.cy, self.parts.down, self.v, z),
             z,
         }
     }
@@ -124,7 +124,7 @@ fn first_depth(camera: &CameraFields, d: i64) -> i64
     requires far { d ≤ℤ camera.now.far }
     ensures value { result ≡ int_max (pos 1) (d -ℤ camera.now.mu) }
     ensures front { pos 1 ≤ℤ result }
-    ensures deep { result ≤ℤ deepest camera.now }
+    ensures deep { result ≤ℤ max_depth camera.now }
 {
     (d - camera.mu).max(1)
 }
@@ -136,7 +136,7 @@ fn last_depth(camera: &CameraFields, d: i64) -> i64
     requires far { d ≤ℤ camera.now.far }
     ensures value { result ≡ d +ℤ camera.now.mu }
     ensures front { pos 1 ≤ℤ result }
-    ensures deep { result ≤ℤ deepest camera.now }
+    ensures deep { result ≤ℤ max_depth camera.now }
 {
     d + camera.mu
 }

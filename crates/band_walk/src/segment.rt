@@ -148,14 +148,14 @@ fn sample(start: Vec3, end: Vec3, n: u32, part: i64, j: u32) -> Vec3
     ensures bound { AreWithin (pos 151006226) result }
 {
     Vec3 {
-        x: sample_on(start.x, end.x, n, part, j),
-        y: sample_on(start.y, end.y, n, part, j),
-        z: sample_on(start.z, end.z, n, part, j),
+        x: sample_axis(start.x, end.x, n, part, j),
+        y: sample_axis(start.y, end.y, n, part, j),
+        z: sample_axis(start.z, end.z, n, part, j),
     }
 }
 
 /// One coordinate of it.
-fn sample_on(start: i64, end: i64, n: u32, part: i64, j: u32) -> i64
+fn sample_axis(start: i64, end: i64, n: u32, part: i64, j: u32) -> i64
     requires start { IsWithin (pos 151006226) start }
     requires end { IsWithin (pos 151006226) end }
     requires n { 1 ≤ n }
@@ -187,14 +187,14 @@ fn block_at(voxel: i64, part: i64, p: Vec3) -> BlockKey
     ensures { result ≡ block_at_of voxel p }
 {
     BlockKey {
-        x: block_on(voxel, part, p.x),
-        y: block_on(voxel, part, p.y),
-        z: block_on(voxel, part, p.z),
+        x: block_axis(voxel, part, p.x),
+        y: block_axis(voxel, part, p.y),
+        z: block_axis(voxel, part, p.z),
     }
 }
 
 /// One coordinate of it.
-fn block_on(voxel: i64, part: i64, x: i64) -> i16
+fn block_axis(voxel: i64, part: i64, x: i64) -> i16
     requires voxel { pos 1000 ≤ℤ voxel }
     requires voxel_high { voxel ≤ℤ pos 100000 }
     requires x { IsWithin (pos 151006226) x }

@@ -12,12 +12,12 @@ use Rattle.fixed_geom.proofs.Segments.{mul_swap, along, IsBetween, AreBetween, n
 use Rattle.voxel_block.specs.declared.key.BlockKey.{BlockKey}
 use Rattle.camera.specs.declared.camera.CameraFields.{CameraFields}
 use Rattle.camera.specs.Grid.{centre_of, block_at, is_key}
-use Rattle.camera.specs.Cameras.{within, HasRanges, HasReach, FitsSphere, deepest, reach_x, reach_y, margin, ray, is_active}
+use Rattle.camera.specs.Cameras.{within, HasRanges, HasReach, FitsSphere, max_depth, reach_x, reach_y, opening_margin, ray, is_active}
 use Rattle.camera.specs.Visibility.{IsPiercedOn, IsPiercedAt, IsNearBlock, sample_of}
 use Rattle.camera.proofs.RangeLemmas.{between, is_between}
 use Rattle.camera.proofs.RayLemmas.{ray_world}
 use Rattle.camera.proofs.Keys.{key_holds}
-use Rattle.camera.proofs.Active.{drift, in_sphere, depth_within, margin_large}
+use Rattle.camera.proofs.Active.{drift, in_sphere, depth_within, opening_margin_large}
 use Rattle.camera.proofs.RayBack.{IsPixel, pixel_bounds, ray_back}
 
 -- ---- products of a block's border
@@ -86,9 +86,9 @@ abbrev ends_low : CameraFields → Vec3
 ends_low k = vec (neg_ℤ (reach_x k +ℤ drift k)) (neg_ℤ (reach_y k +ℤ drift k)) (pos 1 -ℤ drift k)
 
 abbrev ends_high : CameraFields → Vec3
-ends_high k = vec (reach_x k +ℤ drift k) (reach_y k +ℤ drift k) (deepest k +ℤ drift k)
+ends_high k = vec (reach_x k +ℤ drift k) (reach_y k +ℤ drift k) (max_depth k +ℤ drift k)
 
-end_between : (k : CameraFields) (m : Pose) (u v z : ℤ) → HasRanges k → IsPose m → IsPixel k u v → pos 1 ≤ℤ z → z ≤ℤ deepest k → AreBetween (ends_low k) (ends_high k) (cam m (world m (ray k u v z)))
+end_between : (k : CameraFields) (m : Pose) (u v z : ℤ) → HasRanges k → IsPose m → IsPixel k u v → pos 1 ≤ℤ z → z ≤ℤ max_depth k → AreBetween (ends_low k) (ends_high k) (cam m (world m (ray k u v z)))
 end_between k m u v z r o i front back =
     let c = ray k u v z in
     let p = cam m (world m c) in
@@ -97,11 +97,11 @@ end_between k m u v z r o i front back =
     record {
       x = ends_within (reach_x k) (drift k) c.x p.x b.0 w.x;
       y = ends_within (reach_y k) (drift k) c.y p.y b.1 w.y;
-      z = depth_between (drift k) z p.z (deepest k) front back w.z;
+      z = depth_between (drift k) z p.z (max_depth k) front back w.z;
     }
 
 -- a block that the segment between two points of a pixel's ray pierces is active
-pub band_is_active : (k : CameraFields) (m : Pose) (u v y z p q : ℤ) (b : BlockKey) → HasRanges k → FitsSphere k → IsPose m → IsPixel k u v → pos 1 ≤ℤ y → y ≤ℤ deepest k → pos 1 ≤ℤ z → z ≤ℤ deepest k
+pub band_is_active : (k : CameraFields) (m : Pose) (u v y z p q : ℤ) (b : BlockKey) → HasRanges k → FitsSphere k → IsPose m → IsPixel k u v → pos 1 ≤ℤ y → y ≤ℤ max_depth k → pos 1 ≤ℤ z → z ≤ℤ max_depth k
     → IsPiercedAt k.voxel p q (world m (ray k u v y)) (world m (ray k u v z)) b → IsTrue (is_active k m b)
 band_is_active k m u v y z p q b r h o i y1 yd z1 zd at =
     let s = k.voxel in
@@ -110,13 +110,13 @@ band_is_active k m u v y z p q b r h o i y1 yd z1 zd at =
     let e = world m (ray k u v z) in
     let c = cam m (centre_of s b) in
     let bounds = pixel_bounds k u v y r i y1 yd in
-    let large = margin_large k (ray k u v y).x (ray k u v y).y r bounds.0 bounds.1 in
+    let large = opening_margin_large k (ray k u v y).x (ray k u v y).y r bounds.0 bounds.1 in
     let n = near_segment m a e (centre_of s b) (ends_low k) (ends_high k) s p q o.range s0 at.divisor at.start at.finish
     (record { x = centre_off s p q a.x e.x b.x at.x; y = centre_off s p q a.y e.y b.y at.y; z = centre_off s p q a.z e.z b.z at.z })
     (end_between k m u v y r o i y1 yd) (end_between k m u v z r o i z1 zd) in
-    let more = fewer s (drift k) (margin k) s0 large.1 in
-    in_sphere k c h (side (reach_x k) (drift k) s (margin k) c.x more n.x) (side (reach_y k) (drift k) s (margin k) c.y more n.y)
-    (depth_within (deepest k) k.centre c.z (margin k) r.centre (front (drift k) s (margin k) c.z (deepest k) more n.z) (back (drift k) s (margin k) c.z (deepest k) more n.z))
+    let more = fewer s (drift k) (opening_margin k) s0 large.1 in
+    in_sphere k c h (side (reach_x k) (drift k) s (opening_margin k) c.x more n.x) (side (reach_y k) (drift k) s (opening_margin k) c.y more n.y)
+    (depth_within (max_depth k) k.centre c.z (opening_margin k) r.centre (front (drift k) s (opening_margin k) c.z (max_depth k) more n.z) (back (drift k) s (opening_margin k) c.z (max_depth k) more n.z))
   where
     fewer : (s d m : ℤ) → pos 0 ≤ℤ s → m ≡ pos 14 *ℤ s +ℤ d +ℤ pos 8 → (d +ℤ pos 13 *ℤ s) ≤ℤ m
     fewer s d m h e = omega (arith, ints)
@@ -213,7 +213,7 @@ near_has_key b i =
     high z h = omega (arith, ints)
 
 -- a block that the segment between two points of a pixel's ray pierces has small coordinates
-pub band_is_near : (k : CameraFields) (m : Pose) (u v y z p q : ℤ) (b : BlockKey) → HasRanges k → HasReach k → HasPoseRange m → IsPixel k u v → pos 1 ≤ℤ y → y ≤ℤ deepest k → pos 1 ≤ℤ z → z ≤ℤ deepest k
+pub band_is_near : (k : CameraFields) (m : Pose) (u v y z p q : ℤ) (b : BlockKey) → HasRanges k → HasReach k → HasPoseRange m → IsPixel k u v → pos 1 ≤ℤ y → y ≤ℤ max_depth k → pos 1 ≤ℤ z → z ≤ℤ max_depth k
     → IsPiercedAt k.voxel p q (world m (ray k u v y)) (world m (ray k u v z)) b → IsNearBlock b
 band_is_near k m u v y z p q b r h o i y1 yd z1 zd at =
     pierced_is_near k.voxel p q (world m (ray k u v y)) (world m (ray k u v z)) b r.voxel (ray_world k m u v y r h o i.u_low i.u_high i.v_low i.v_high y1 yd) (ray_world k m u v z r h o i.u_low i.u_high i.v_low i.v_high z1 zd) at

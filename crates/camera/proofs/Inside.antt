@@ -9,7 +9,7 @@ use Rattle.fixed_geom.specs.Vectors.{IsWithin}
 use Rattle.fixed_geom.proofs.Whole.{mul_sum, sum_mul, mul_turn, mul_group, mul_order, mul_neg, difference_mul}
 use Rattle.fixed_geom.proofs.Floors.{floor_is, floor_above}
 use Rattle.camera.specs.declared.camera.CameraFields.{CameraFields}
-use Rattle.camera.specs.Cameras.{project, HasRanges, is_inside, is_in_image, within, pixel_on, left, right, half, deepest, reach_on, reach_x, reach_y}
+use Rattle.camera.specs.Cameras.{project, HasRanges, is_inside, is_in_image, within, pixel_axis, left, right, half, max_depth, reach_axis, reach_x, reach_y}
 use Rattle.camera.specs.Visibility.{IsMetAt}
 use Rattle.camera.proofs.RangeLemmas.{is_at_most, between}
 use Rattle.camera.proofs.RayLemmas.{at_depth, half_covers}
@@ -19,12 +19,12 @@ side_low : (fx cz z a zu cz' : ℤ) → zu ≤ℤ a → a ≡ fx +ℤ cz +ℤ po
 side_low fx cz z a zu cz' h e p f = omega (arith, ints)
 
 -- a pixel coordinate of at least 0 bounds the point on the left
-pub inside_low : (f c x z : ℤ) → pos 1 ≤ℤ z → pos 0 ≤ℤ pixel_on f c x z → (neg_ℤ (left c *ℤ z)) ≤ℤ (f *ℤ x)
+pub inside_low : (f c x z : ℤ) → pos 1 ≤ℤ z → pos 0 ≤ℤ pixel_axis f c x z → (neg_ℤ (left c *ℤ z)) ≤ℤ (f *ℤ x)
 inside_low f c x z h u =
     let d = pos 65536 *ℤ z in
     let a = f *ℤ x +ℤ c *ℤ z +ℤ pos 32768 *ℤ z in
     let is = floor_is a d (omega (arith, ints)) in
-    side_low (f *ℤ x) (c *ℤ z) z a (d *ℤ pixel_on f c x z) (left c *ℤ z) is.below refl (product_up d (pixel_on f c x z) (omega (arith, ints)) u) (sum_mul c (pos 32768) z)
+    side_low (f *ℤ x) (c *ℤ z) z a (d *ℤ pixel_axis f c x z) (left c *ℤ z) is.below refl (product_up d (pixel_axis f c x z) (omega (arith, ints)) u) (sum_mul c (pos 32768) z)
   where
     product_up : (d u : ℤ) → pos 0 ≤ℤ d → pos 0 ≤ℤ u → pos 0 ≤ℤ (d *ℤ u)
     product_up d u p q = let m = mul_order d (pos 0) u p q in omega (arith, ints)
@@ -40,10 +40,10 @@ right_times w c z =
     ∙ ap (λ (y : ℤ). y -ℤ c *ℤ z -ℤ pos 32768 *ℤ z) (mul_group (pos 65536) w z)
 
 -- a pixel coordinate below the width bounds the point on the right
-pub inside_high : (f c w x z : ℤ) → pos 1 ≤ℤ z → pixel_on f c x z <ℤ w → (f *ℤ x) <ℤ (right w c *ℤ z)
+pub inside_high : (f c w x z : ℤ) → pos 1 ≤ℤ z → pixel_axis f c x z <ℤ w → (f *ℤ x) <ℤ (right w c *ℤ z)
 inside_high f c w x z h u =
     let d = pos 65536 *ℤ z in
-    let q = pixel_on f c x z in
+    let q = pixel_axis f c x z in
     let a = f *ℤ x +ℤ c *ℤ z +ℤ pos 32768 *ℤ z in
     let is = floor_is a d (omega (arith, ints)) in
     let next : (q +ℤ pos 1) ≤ℤ w = omega (arith, ints) in
@@ -61,7 +61,7 @@ low_side : (f x lz top q : ℤ) → (neg_ℤ lz) ≤ℤ (f *ℤ x) → lz ≤ℤ
 low_side f x lz top q h k = omega (arith, ints, mul_neg f x)
 
 -- a point inside, at most at the greatest depth, is closer to the axis than the reach
-pub inside_within : (f c w x z top : ℤ) → pos 1 ≤ℤ f → pos 0 ≤ℤ c → pos 1 ≤ℤ z → z ≤ℤ top → pos 0 ≤ℤ pixel_on f c x z → pixel_on f c x z <ℤ w → IsWithin (reach_on top f w c -ℤ pos 1) x
+pub inside_within : (f c w x z top : ℤ) → pos 1 ≤ℤ f → pos 0 ≤ℤ c → pos 1 ≤ℤ z → z ≤ℤ top → pos 0 ≤ℤ pixel_axis f c x z → pixel_axis f c x z <ℤ w → IsWithin (reach_axis top f w c -ℤ pos 1) x
 inside_within f c w x z top f1 c0 z1 le u v =
     let m = half w c in
     let covers = half_covers w c c0 in
@@ -82,15 +82,15 @@ inside_within f c w x z top f1 c0 z1 le u v =
 -- what the tests tell of a point that projects inside
 pub record ProjectsInside (k : CameraFields) (p : Vec3) : Type 0 where
   pub front : pos 1 ≤ℤ p.z
-  pub u_low : pos 0 ≤ℤ pixel_on k.fx k.cx p.x p.z
-  pub u_high : pixel_on k.fx k.cx p.x p.z <ℤ k.width
-  pub v_low : pos 0 ≤ℤ pixel_on k.fy k.cy p.y p.z
-  pub v_high : pixel_on k.fy k.cy p.y p.z <ℤ k.height
+  pub u_low : pos 0 ≤ℤ pixel_axis k.fx k.cx p.x p.z
+  pub u_high : pixel_axis k.fx k.cx p.x p.z <ℤ k.width
+  pub v_low : pos 0 ≤ℤ pixel_axis k.fy k.cy p.y p.z
+  pub v_high : pixel_axis k.fy k.cy p.y p.z <ℤ k.height
 
 pub projects_inside : (k : CameraFields) (p : Vec3) → IsTrue (is_inside k p) → ProjectsInside k p
 projects_inside k p t =
-    let u = pixel_on k.fx k.cx p.x p.z in
-    let v = pixel_on k.fy k.cy p.y p.z in
+    let u = pixel_axis k.fx k.cx p.x p.z in
+    let v = pixel_axis k.fy k.cy p.y p.z in
     let parts = and_parts (int_le (pos 1) p.z) (is_in_image k u v) t in
     let both = and_parts (within (pos 0) (k.width -ℤ pos 1) u) (within (pos 0) (k.height -ℤ pos 1) v) parts.1 in
     let column = between (pos 0) (k.width -ℤ pos 1) u both.0 in
@@ -104,12 +104,12 @@ projects_inside k p t =
 pub inside_bounds : (k : CameraFields) (p : Vec3) → HasRanges k → IsMetAt k p → IsWithin (reach_x k -ℤ pos 1) p.x × IsWithin (reach_y k -ℤ pos 1) p.y
 inside_bounds k p r met =
     let i = projects_inside k p met.inside in (
-      inside_within k.fx k.cx k.width p.x p.z (deepest k) r.fx r.cx i.front met.deep i.u_low i.u_high,
-      inside_within k.fy k.cy k.height p.y p.z (deepest k) r.fy r.cy i.front met.deep i.v_low i.v_high,
+      inside_within k.fx k.cx k.width p.x p.z (max_depth k) r.fx r.cx i.front met.deep i.u_low i.u_high,
+      inside_within k.fy k.cy k.height p.y p.z (max_depth k) r.fy r.cy i.front met.deep i.v_low i.v_high,
     )
 
 -- a point that has a pixel is met, if it is at most at the greatest depth
-pub met_by_pixel : (k : CameraFields) (p : Vec3) (q : ℕ × ℕ) → project k p ≡ Some q → p.z ≤ℤ deepest k → IsMetAt k p
+pub met_by_pixel : (k : CameraFields) (p : Vec3) (q : ℕ × ℕ) → project k p ≡ Some q → p.z ≤ℤ max_depth k → IsMetAt k p
 met_by_pixel k p q e le = record { inside = by (is_inside k p) _ e; deep = le }
   where
     by : (b : Bool) (x : ℕ × ℕ) → cond b (Some x) None ≡ Some q → b ≡ true

@@ -11,7 +11,7 @@ use Rattle.fixed_geom.proofs.Floors.{floor_is}
 use Rattle.voxel_block.specs.declared.key.BlockKey.{BlockKey}
 use Rattle.voxel_block.specs.Blocks.{Offset}
 use Rattle.voxel_block.proofs.Blocks.{offset_of-index_of}
-use Rattle.camera.specs.Grid.{block, fits_key, is_key, as_key, nearest, nearest_on, nearest_voxel, block_of_voxel, index_of_voxel, offset_on, voxel_coordinates}
+use Rattle.camera.specs.Grid.{block, fits_key, is_key, as_key, nearest, nearest_axis, nearest_voxel, block_of_voxel, index_of_voxel, offset_axis, voxel_coordinates}
 use Rattle.camera.proofs.Readings.{read}
 use Rattle.camera.proofs.RangeLemmas.{between}
 
@@ -56,7 +56,7 @@ block_floor d p s fits w low high is =
     to_z-of_z w64 d fits ∙ is ∙ rw (length, point) refl
 
 -- a coordinate of the nearest voxel
-pub nearest_floor : (d p s : ℤ) → SFits w64 d → IsWithin (pos 1099511627776) p → pos 1 ≤ℤ s → s ≤ℤ pos 100000 → d ≡ floor_div (read (read (pos 2 *ℤ read p) +ℤ read s)) (read (pos 2 *ℤ read s)) → read d ≡ nearest_on s p
+pub nearest_floor : (d p s : ℤ) → SFits w64 d → IsWithin (pos 1099511627776) p → pos 1 ≤ℤ s → s ≤ℤ pos 100000 → d ≡ floor_div (read (read (pos 2 *ℤ read p) +ℤ read s)) (read (pos 2 *ℤ read s)) → read d ≡ nearest_axis s p
 nearest_floor d p s fits w low high is =
     let above : read (read (pos 2 *ℤ read p) +ℤ read s) ≡ pos 2 *ℤ p +ℤ s = omega (arith, ints) in
     let below : read (pos 2 *ℤ read s) ≡ pos 2 *ℤ s = omega (arith, ints) in
@@ -68,7 +68,7 @@ nearest_floor d p s fits w low high is =
 parted : (c q : ℤ) → IsFloor c (pos 8) q → (pos 8 *ℤ q +ℤ pos (unsigned_abs (c -ℤ pos 8 *ℤ q)) ≡ c) × (unsigned_abs (c -ℤ pos 8 *ℤ q) < 8)
 parted c q f = (omega (arith, ints, f.below, f.above), omega (arith, ints, f.below, f.above))
 
-on_axis : (c : ℤ) → (pos 8 *ℤ floor_div c (pos 8) +ℤ pos (offset_on c) ≡ c) × (offset_on c < 8)
+on_axis : (c : ℤ) → (pos 8 *ℤ floor_div c (pos 8) +ℤ pos (offset_axis c) ≡ c) × (offset_axis c < 8)
 on_axis c = parted c (floor_div c (pos 8)) (floor_is c (pos 8) (omega (arith, ints)))
 
 pub voxel_back : (v : Vec3) → voxel_coordinates (block_of_voxel v) (index_of_voxel v) ≡ v
@@ -76,7 +76,7 @@ voxel_back v =
     let x = on_axis v.x in
     let y = on_axis v.y in
     let z = on_axis v.z in
-    let e = offset_of-index_of (offset_on v.x) (offset_on v.y) (offset_on v.z) x.1 y.1 in
+    let e = offset_of-index_of (offset_axis v.x) (offset_axis v.y) (offset_axis v.z) x.1 y.1 in
     let is_x : (voxel_coordinates (block_of_voxel v) (index_of_voxel v)).x ≡ v.x = ap (λ (o : Offset). pos 8 *ℤ floor_div v.x (pos 8) +ℤ pos o.x) e ∙ x.0 in
     let is_y : (voxel_coordinates (block_of_voxel v) (index_of_voxel v)).y ≡ v.y = ap (λ (o : Offset). pos 8 *ℤ floor_div v.y (pos 8) +ℤ pos o.y) e ∙ y.0 in
     let is_z : (voxel_coordinates (block_of_voxel v) (index_of_voxel v)).z ≡ v.z = ap (λ (o : Offset). pos 8 *ℤ floor_div v.z (pos 8) +ℤ pos o.z) e ∙ z.0 in

@@ -15,10 +15,10 @@ use Rattle.fixed_geom.proofs.Whole.{sum_mul, mul_difference, mul_turn, mul_order
 use Rattle.fixed_geom.proofs.Floors.{floor_is, floor_nest, floor_div_is, floor_above, floor_below}
 use Rattle.camera.specs.declared.camera.CameraFields.{CameraFields}
 use Rattle.camera.proofs.Readings.{read, fields_read, wide_read}
-use Rattle.camera.specs.Cameras.{HasRanges, within, pixel_on, depth_of, project}
+use Rattle.camera.specs.Cameras.{HasRanges, within, pixel_axis, depth_of, project}
 
 -- the pixel coordinate is the floor of the floor by 2^16
-pub pixel_is : (f c x z : ℤ) → pos 1 ≤ℤ z → floor_div (floor_div (f *ℤ x +ℤ c *ℤ z +ℤ pos 32768 *ℤ z) (pos 65536)) z ≡ pixel_on f c x z
+pub pixel_is : (f c x z : ℤ) → pos 1 ≤ℤ z → floor_div (floor_div (f *ℤ x +ℤ c *ℤ z +ℤ pos 32768 *ℤ z) (pos 65536)) z ≡ pixel_axis f c x z
 pixel_is f c x z h =
     let a = f *ℤ x +ℤ c *ℤ z +ℤ pos 32768 *ℤ z in
     let q = floor_div a (pos 65536) in
@@ -148,11 +148,11 @@ rows k p r w h = let e = fields_read k r in record { front = h; f_read = e.fy; c
 
 -- the test of an axis, and its pixel coordinate
 pub axis_test : (f c x z w : ℤ) (b : Bool) (s : ℤ) → IsAxis f c x z w → SFits w64 s
-    → s ≡ floor_div (read f *ℤ read x +ℤ read c *ℤ read z +ℤ pos 32768 *ℤ read z) (pos 65536) → b ≡ within (pos 0) (read w -ℤ pos 1) (floor_div (read s) (read z)) → b ≡ within (pos 0) (w -ℤ pos 1) (pixel_on f c x z)
+    → s ≡ floor_div (read f *ℤ read x +ℤ read c *ℤ read z +ℤ pos 32768 *ℤ read z) (pos 65536) → b ≡ within (pos 0) (read w -ℤ pos 1) (floor_div (read s) (read z)) → b ≡ within (pos 0) (w -ℤ pos 1) (pixel_axis f c x z)
 axis_test f c x z w b s a fits is e = e ∙ rw (to_z-of_z w64 s fits, is, a.f_read, a.c_read, a.x_read, a.z_read, a.w_read, pixel_is f c x z a.front) refl
 
 pub axis_pixel : (f c x z w : ℤ) (n : ℕ) (s : ℤ) → IsAxis f c x z w → SFits w64 s
-    → s ≡ floor_div (read f *ℤ read x +ℤ read c *ℤ read z +ℤ pos 32768 *ℤ read z) (pos 65536) → pos n ≡ floor_div (read s) (read z) → pos n ≡ pixel_on f c x z
+    → s ≡ floor_div (read f *ℤ read x +ℤ read c *ℤ read z +ℤ pos 32768 *ℤ read z) (pos 65536) → pos n ≡ floor_div (read s) (read z) → pos n ≡ pixel_axis f c x z
 axis_pixel f c x z w n s a fits is e = e ∙ rw (to_z-of_z w64 s fits, is, a.f_read, a.c_read, a.x_read, a.z_read, pixel_is f c x z a.front) refl
 
 -- a quotient that passed its test is at most 2047
@@ -181,13 +181,13 @@ both_hold : (h a b : Bool) (q r : ℤ) (n m : ℕ) → h ≡ true → a ≡ true
 both_hold h a b q r n m e f g i j = rw (e, f, g, ← i, ← j) refl
 
 -- the three answers
-pub no_column : (k : CameraFields) (p : Vec3) (b : Bool) → pos 1 ≤ℤ p.z → b ≡ within (pos 0) (k.width -ℤ pos 1) (pixel_on k.fx k.cx p.x p.z) → b ≡ false → None ≡ project k p
+pub no_column : (k : CameraFields) (p : Vec3) (b : Bool) → pos 1 ≤ℤ p.z → b ≡ within (pos 0) (k.width -ℤ pos 1) (pixel_axis k.fx k.cx p.x p.z) → b ≡ false → None ≡ project k p
 no_column k p b h e f = first_fails (int_le (pos 1) p.z) _ _ _ (sym e ∙ f)
 
-pub no_row : (k : CameraFields) (p : Vec3) (a b : Bool) → pos 1 ≤ℤ p.z → a ≡ within (pos 0) (k.width -ℤ pos 1) (pixel_on k.fx k.cx p.x p.z) → a ≡ true
-    → b ≡ within (pos 0) (k.height -ℤ pos 1) (pixel_on k.fy k.cy p.y p.z) → b ≡ false → None ≡ project k p
+pub no_row : (k : CameraFields) (p : Vec3) (a b : Bool) → pos 1 ≤ℤ p.z → a ≡ within (pos 0) (k.width -ℤ pos 1) (pixel_axis k.fx k.cx p.x p.z) → a ≡ true
+    → b ≡ within (pos 0) (k.height -ℤ pos 1) (pixel_axis k.fy k.cy p.y p.z) → b ≡ false → None ≡ project k p
 no_row k p a b h d t e f = second_fails (int_le (pos 1) p.z) _ _ _ (sym e ∙ f)
 
-pub one_pixel : (k : CameraFields) (p : Vec3) (a b : Bool) (n m : ℕ) → pos 1 ≤ℤ p.z → a ≡ within (pos 0) (k.width -ℤ pos 1) (pixel_on k.fx k.cx p.x p.z) → a ≡ true
-    → b ≡ within (pos 0) (k.height -ℤ pos 1) (pixel_on k.fy k.cy p.y p.z) → b ≡ true → pos n ≡ pixel_on k.fx k.cx p.x p.z → pos m ≡ pixel_on k.fy k.cy p.y p.z → ◌≡◌ {A = Option (ℕ × ℕ)} (Some (n, m)) (project k p)
+pub one_pixel : (k : CameraFields) (p : Vec3) (a b : Bool) (n m : ℕ) → pos 1 ≤ℤ p.z → a ≡ within (pos 0) (k.width -ℤ pos 1) (pixel_axis k.fx k.cx p.x p.z) → a ≡ true
+    → b ≡ within (pos 0) (k.height -ℤ pos 1) (pixel_axis k.fy k.cy p.y p.z) → b ≡ true → pos n ≡ pixel_axis k.fx k.cx p.x p.z → pos m ≡ pixel_axis k.fy k.cy p.y p.z → ◌≡◌ {A = Option (ℕ × ℕ)} (Some (n, m)) (project k p)
 one_pixel k p a b n m h d t e f i j = both_hold (int_le (pos 1) p.z) _ _ _ _ n m (front_holds p.z h) (sym d ∙ t) (sym e ∙ f) i j

@@ -10,7 +10,7 @@ use Rattle.fixed_geom.proofs.Whole.{mul_sum, mul_neg, mul_turn, mul_order}
 use Rattle.fixed_geom.proofs.Floors.{floor_is, floor_above, floor_below}
 use Rattle.fixed_geom.proofs.Worlds.{world_bound}
 use Rattle.camera.specs.declared.camera.CameraFields.{CameraFields}
-use Rattle.camera.specs.Cameras.{HasRanges, HasReach, left, right, half, deepest, reach_on, reach_x, reach_y, ray_on, ray, depth_of, within}
+use Rattle.camera.specs.Cameras.{HasRanges, HasReach, left, right, half, max_depth, reach_axis, reach_x, reach_y, ray_axis, ray, depth_of, within}
 use Rattle.camera.proofs.ProjectionLemmas.{within_tells}
 
 -- a factor that is at most m, at a depth of at most top, gives at most top m
@@ -31,7 +31,7 @@ half_covers w c h = covers (left c) (right w c) (omega (arith, ints))
     covers l r h = omega (arith, ints, clamps)
 
 -- a ray's point is within the reach, on one axis
-pub ray_within : (f c w u z top : ℤ) → pos 1 ≤ℤ f → pos 0 ≤ℤ c → pos 0 ≤ℤ u → u <ℤ w → pos 1 ≤ℤ z → z ≤ℤ top → IsWithin (reach_on top f w c) (ray_on f c u z)
+pub ray_within : (f c w u z top : ℤ) → pos 1 ≤ℤ f → pos 0 ≤ℤ c → pos 0 ≤ℤ u → u <ℤ w → pos 1 ≤ℤ z → z ≤ℤ top → IsWithin (reach_axis top f w c) (ray_axis f c u z)
 ray_within f c w u z top f1 c0 u0 uw z1 le =
     let m = half w c in
     let p = pos 65536 *ℤ u -ℤ c in
@@ -42,10 +42,10 @@ ray_within f c w u z top f1 c0 u0 uw z1 le =
     let q = floor_div (top *ℤ m) f in
     let is = floor_is (top *ℤ m) f f1 in
     let at = floor_is (p *ℤ z) f f1 in
-    let high : ray_on f c u z ≤ℤ q = floor_below (p *ℤ z) f (ray_on f c u z) q f1 at (past (p *ℤ z) (top *ℤ m) (f *ℤ q +ℤ f) most is.above) in
-    let low : (neg_ℤ (q +ℤ pos 1)) ≤ℤ ray_on f c u z = floor_above (p *ℤ z) f (ray_on f c u z) (neg_ℤ (q +ℤ pos 1)) f1 at
+    let high : ray_axis f c u z ≤ℤ q = floor_below (p *ℤ z) f (ray_axis f c u z) q f1 at (past (p *ℤ z) (top *ℤ m) (f *ℤ q +ℤ f) most is.above) in
+    let low : (neg_ℤ (q +ℤ pos 1)) ≤ℤ ray_axis f c u z = floor_above (p *ℤ z) f (ray_axis f c u z) (neg_ℤ (q +ℤ pos 1)) f1 at
     (under (p *ℤ z) (neg_ℤ p *ℤ z) (top *ℤ m) (f *ℤ q) f (f *ℤ (q +ℤ pos 1)) (f *ℤ pos 1) (f *ℤ neg_ℤ (q +ℤ pos 1)) (neg_mul p z) least is.above (mul_sum f q (pos 1)) (omega (arith, ints)) (mul_neg f (q +ℤ pos 1))) in
-    ended q (ray_on f c u z) high low
+    ended q (ray_axis f c u z) high low
   where
     ordered : (a b c : ℤ) → a ≤ℤ b → b ≤ℤ c → a ≤ℤ c
     ordered a b c h k = omega (arith, ints)
@@ -69,14 +69,14 @@ ray_within f c w u z top f1 c0 u0 uw z1 le =
     ended q x h k = record { low = omega (arith, ints); high = omega (arith, ints) }
 
 -- the point of a pixel's ray, at most at the greatest depth, is within the reach
-pub ray_bounds : (k : CameraFields) (u v z : ℤ) → HasRanges k → pos 0 ≤ℤ u → u <ℤ k.width → pos 0 ≤ℤ v → v <ℤ k.height → pos 1 ≤ℤ z → z ≤ℤ deepest k → IsWithin (reach_x k) (ray k u v z).x × IsWithin (reach_y k) (ray k u v z).y
+pub ray_bounds : (k : CameraFields) (u v z : ℤ) → HasRanges k → pos 0 ≤ℤ u → u <ℤ k.width → pos 0 ≤ℤ v → v <ℤ k.height → pos 1 ≤ℤ z → z ≤ℤ max_depth k → IsWithin (reach_x k) (ray k u v z).x × IsWithin (reach_y k) (ray k u v z).y
 ray_bounds k u v z r u0 uw v0 vh front back = (
-  ray_within k.fx k.cx k.width u z (deepest k) r.fx r.cx u0 uw front back,
-  ray_within k.fy k.cy k.height v z (deepest k) r.fy r.cy v0 vh front back,
+  ray_within k.fx k.cx k.width u z (max_depth k) r.fx r.cx u0 uw front back,
+  ray_within k.fy k.cy k.height v z (max_depth k) r.fy r.cy v0 vh front back,
 )
 
 -- so it is within 17 metres on each axis
-pub ray_near : (k : CameraFields) (u v z : ℤ) → HasRanges k → HasReach k → pos 0 ≤ℤ u → u <ℤ k.width → pos 0 ≤ℤ v → v <ℤ k.height → pos 1 ≤ℤ z → z ≤ℤ deepest k → AreWithin (pos 17000000) (ray k u v z)
+pub ray_near : (k : CameraFields) (u v z : ℤ) → HasRanges k → HasReach k → pos 0 ≤ℤ u → u <ℤ k.width → pos 0 ≤ℤ v → v <ℤ k.height → pos 1 ≤ℤ z → z ≤ℤ max_depth k → AreWithin (pos 17000000) (ray k u v z)
 ray_near k u v z r h u0 uw v0 vh front back =
     let b = ray_bounds k u v z r u0 uw v0 vh front back in
     record {
@@ -92,7 +92,7 @@ ray_near k u v z r h u0 uw v0 vh front back =
     deep z far mu a b c d = record { low = omega (arith, ints); high = omega (arith, ints) }
 
 -- and its world point within 151006226 of the origin
-pub ray_world : (k : CameraFields) (m : Pose) (u v z : ℤ) → HasRanges k → HasReach k → HasPoseRange m → pos 0 ≤ℤ u → u <ℤ k.width → pos 0 ≤ℤ v → v <ℤ k.height → pos 1 ≤ℤ z → z ≤ℤ deepest k → AreWithin (pos 151006226) (world m (ray k u v z))
+pub ray_world : (k : CameraFields) (m : Pose) (u v z : ℤ) → HasRanges k → HasReach k → HasPoseRange m → pos 0 ≤ℤ u → u <ℤ k.width → pos 0 ≤ℤ v → v <ℤ k.height → pos 1 ≤ℤ z → z ≤ℤ max_depth k → AreWithin (pos 151006226) (world m (ray k u v z))
 ray_world k m u v z r h o u0 uw v0 vh front back = world_bound m (ray k u v z) o (ray_near k u v z r h u0 uw v0 vh front back)
 
 -- a column of a depth map is one of the camera's image, and so is a row

@@ -11,8 +11,8 @@ use Rattle.fixed_geom.proofs.Whole.{mul_turn, mul_order}
 use Rattle.voxel_block.specs.declared.key.BlockKey.{BlockKey}
 use Rattle.camera.specs.declared.camera.CameraFields.{CameraFields}
 use Rattle.camera.specs.Grid.{point_of, centre_of}
-use Rattle.camera.specs.Cameras.{HasRanges, left, right, deepest}
-use Rattle.camera.specs.Visibility.{IsMet, IsMetAt, MeetsNone, looks_round, side_depth, is_at_depth, is_between_sides, is_in_view, may_be_seen_at, may_be_seen}
+use Rattle.camera.specs.Cameras.{HasRanges, left, right, max_depth}
+use Rattle.camera.specs.Visibility.{IsMet, IsMetAt, MeetsNone, margin, side_depth, is_at_depth, is_between_sides, is_in_view, may_be_seen_at, may_be_seen}
 use Rattle.camera.proofs.RangeLemmas.{at_most}
 use Rattle.camera.proofs.Inside.{inside_low, inside_high, projects_inside}
 use Rattle.camera.proofs.Offsets.{voxel_step}
@@ -64,7 +64,7 @@ sides_hold f c w n x q z h f1 c0 z0 in_left in_right below above deep =
 pub seen_near : (k : CameraFields) (p c : Vec3) → HasRanges k → IsMetAt k p → AreWithin (pos 13 *ℤ k.voxel) (minus p c) → IsTrue (may_be_seen_at k c)
 seen_near k p c r met near =
     let s = k.voxel in
-    let n = looks_round k in
+    let n = margin k in
     let i = projects_inside k p met.inside in
     let s0 : pos 0 ≤ℤ s = omega (arith, ints, r.voxel) in
     let z0 : pos 0 ≤ℤ p.z = omega (arith, ints, i.front) in
@@ -72,8 +72,8 @@ seen_near k p c r met near =
     let y = close_up (pos 13 *ℤ s) s p.y c.y s0 refl near.y in
     let z = close_up (pos 13 *ℤ s) s p.z c.z s0 refl near.z in
     let h = side_depth k c.z in
-    let deep = shallow p.z c.z n (deepest k) z.0 met.deep in
-    let depth : IsTrue (is_at_depth k c.z) = both_hold _ _ (at_most _ _ (ordered (pos 1) p.z (c.z +ℤ n) i.front z.0)) (at_most _ _ (ordered (c.z -ℤ n) p.z (deepest k) z.1 met.deep)) in
+    let deep = shallow p.z c.z n (max_depth k) z.0 met.deep in
+    let depth : IsTrue (is_at_depth k c.z) = both_hold _ _ (at_most _ _ (ordered (pos 1) p.z (c.z +ℤ n) i.front z.0)) (at_most _ _ (ordered (c.z -ℤ n) p.z (max_depth k) z.1 met.deep)) in
     let columns = sides_hold k.fx k.cx k.width n p.x c.x p.z h r.fx r.cx z0 (inside_low k.fx k.cx p.x p.z i.front i.u_low) (inside_high k.fx k.cx k.width p.x p.z i.front i.u_high) x.0 x.1 deep in
     let rows = sides_hold k.fy k.cy k.height n p.y c.y p.z h r.fy r.cy z0 (inside_low k.fy k.cy p.y p.z i.front i.v_low) (inside_high k.fy k.cy k.height p.y p.z i.front i.v_high) y.0 y.1 deep in
     let view : IsTrue (is_in_view k c) = both_hold _ _ columns rows in

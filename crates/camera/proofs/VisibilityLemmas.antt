@@ -8,8 +8,8 @@ use mir.Syntax.{w64}
 use Rattle.fixed_geom.specs.declared.vector.Vec3.{Vec3}
 use Rattle.fixed_geom.specs.Vectors.{IsWithin, AreWithin}
 use Rattle.camera.specs.declared.camera.CameraFields.{CameraFields}
-use Rattle.camera.specs.Cameras.{HasRanges, deepest, left, right}
-use Rattle.camera.specs.Visibility.{looks_round, side_depth, is_at_depth, is_between_sides}
+use Rattle.camera.specs.Cameras.{HasRanges, max_depth, left, right}
+use Rattle.camera.specs.Visibility.{margin, side_depth, is_at_depth, is_between_sides}
 use Rattle.camera.proofs.Readings.{read, read128, fits64, fields_read, wide_read}
 
 -- ---- two tests, the second one tried where the first one holds
@@ -33,8 +33,8 @@ side_read z w = omega (arith, ints)
 depth_read : (z : ℤ) → IsWithin (pos 8796093022208) z → read z ≡ z
 depth_read z w = omega (arith, ints)
 
-deepest_read : (z : ℤ) → IsWithin (pos 17000000) z → read z ≡ z
-deepest_read z w = omega (arith, ints)
+max_depth_read : (z : ℤ) → IsWithin (pos 17000000) z → read z ≡ z
+max_depth_read z w = omega (arith, ints)
 
 more_read : (x n : ℤ) → IsWithin (pos 4398046511104) x → IsWithin (pos 1400000) n → read (read x +ℤ read n) ≡ x +ℤ n
 more_read x n v w = omega (arith, ints)
@@ -50,14 +50,14 @@ less_within x n v w = record { low = omega (arith, ints); high = omega (arith, i
 
 -- ---- depths
 
-pub depth_test : (k : CameraFields) (z n d : ℤ) → HasRanges k → IsWithin (pos 4398046511104) z → n ≡ looks_round k → IsWithin (pos 1400000) n → d ≡ deepest k → IsWithin (pos 17000000) d
+pub depth_test : (k : CameraFields) (z n d : ℤ) → HasRanges k → IsWithin (pos 4398046511104) z → n ≡ margin k → IsWithin (pos 1400000) n → d ≡ max_depth k → IsWithin (pos 17000000) d
     → int_le (pos 1) (read (read z +ℤ read n)) ≡ true → int_le (read (read z -ℤ read n)) (read d) ≡ is_at_depth k z
 depth_test k z n d r zb en nb ed db first =
-    second_tells (int_le (pos 1) (z +ℤ looks_round k)) (int_le (z -ℤ looks_round k) (deepest k)) _ _ first
-    (rw (more_read z n zb nb, en) refl) (rw (less_read z n zb nb, deepest_read d db, en, ed) refl)
+    second_tells (int_le (pos 1) (z +ℤ margin k)) (int_le (z -ℤ margin k) (max_depth k)) _ _ first
+    (rw (more_read z n zb nb, en) refl) (rw (less_read z n zb nb, max_depth_read d db, en, ed) refl)
 
 pub side_depth_within : (z n d r : ℤ) → IsWithin (pos 4398046511104) z → IsWithin (pos 1400000) n → IsWithin (pos 17000000) d → r ≡ int_min (read (read z +ℤ read n)) (read d) → IsWithin (pos 8796093022208) (read r)
-side_depth_within z n d r zb nb db e = handed r (plain (z +ℤ n) d r (added z n zb nb) db (e ∙ rw (more_read z n zb nb, deepest_read d db) refl))
+side_depth_within z n d r zb nb db e = handed r (plain (z +ℤ n) d r (added z n zb nb) db (e ∙ rw (more_read z n zb nb, max_depth_read d db) refl))
   where
     handed : (r : ℤ) → IsWithin (pos 8796093022208) r → IsWithin (pos 8796093022208) (read r)
     handed r w = record { low = omega (arith, ints); high = omega (arith, ints) }
@@ -127,14 +127,14 @@ not_left r f c w n x h l b el lb er fails = first_tells _ _ r fails (low_at r f 
 
 -- ---- the sides of a camera's image
 
-pub columns_read : (r : Bool) (k : CameraFields) (p : Vec3) (n h : ℤ) → HasRanges k → AreWithin (pos 4398046511104) p → n ≡ looks_round k → IsWithin (pos 1400000) n → h ≡ side_depth k (read p.z) → IsWithin (pos 8796093022208) h
-    → r ≡ is_between_sides (read k.fx) (read k.cx) (read k.width) (read n) (read p.x) (read h) → r ≡ is_between_sides k.fx k.cx k.width (looks_round k) p.x (side_depth k p.z)
+pub columns_read : (r : Bool) (k : CameraFields) (p : Vec3) (n h : ℤ) → HasRanges k → AreWithin (pos 4398046511104) p → n ≡ margin k → IsWithin (pos 1400000) n → h ≡ side_depth k (read p.z) → IsWithin (pos 8796093022208) h
+    → r ≡ is_between_sides (read k.fx) (read k.cx) (read k.width) (read n) (read p.x) (read h) → r ≡ is_between_sides k.fx k.cx k.width (margin k) p.x (side_depth k p.z)
 columns_read r k p n h o near en nb eh hb e =
     let is = fields_read k o in
     e ∙ rw (is.fx, is.cx, is.width, small_read n nb, en, wide_read p.x near.x, depth_read h hb, eh, wide_read p.z near.z) refl
 
-pub rows_read : (r : Bool) (k : CameraFields) (p : Vec3) (n h : ℤ) → HasRanges k → AreWithin (pos 4398046511104) p → n ≡ looks_round k → IsWithin (pos 1400000) n → h ≡ side_depth k (read p.z) → IsWithin (pos 8796093022208) h
-    → r ≡ is_between_sides (read k.fy) (read k.cy) (read k.height) (read n) (read p.y) (read h) → r ≡ is_between_sides k.fy k.cy k.height (looks_round k) p.y (side_depth k p.z)
+pub rows_read : (r : Bool) (k : CameraFields) (p : Vec3) (n h : ℤ) → HasRanges k → AreWithin (pos 4398046511104) p → n ≡ margin k → IsWithin (pos 1400000) n → h ≡ side_depth k (read p.z) → IsWithin (pos 8796093022208) h
+    → r ≡ is_between_sides (read k.fy) (read k.cy) (read k.height) (read n) (read p.y) (read h) → r ≡ is_between_sides k.fy k.cy k.height (margin k) p.y (side_depth k p.z)
 rows_read r k p n h o near en nb eh hb e =
     let is = fields_read k o in
     e ∙ rw (is.fy, is.cy, is.height, small_read n nb, en, wide_read p.y near.y, depth_read h hb, eh, wide_read p.z near.z) refl

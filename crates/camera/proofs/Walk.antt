@@ -11,12 +11,12 @@ use Rattle.fixed_geom.proofs.Floors.{floor_is}
 use Rattle.fixed_geom.proofs.Segments.{IsBetween}
 use Rattle.fixed_geom.proofs.Steps.{step_of_half}
 use Rattle.camera.specs.declared.camera.CameraFields.{CameraFields}
-use Rattle.camera.specs.Grid.{centre_of, nearest_on, nearest_voxel, block_of_voxel, is_key}
-use Rattle.camera.specs.Cameras.{HasRanges, HasReach, FitsSphere, deepest, margin, ray, is_active}
+use Rattle.camera.specs.Grid.{centre_of, nearest_axis, nearest_voxel, block_of_voxel, is_key}
+use Rattle.camera.specs.Cameras.{HasRanges, HasReach, FitsSphere, max_depth, opening_margin, ray, is_active}
 use Rattle.camera.proofs.RayLemmas.{ray_world}
 use Rattle.camera.proofs.Keys.{key_holds}
 use Rattle.camera.proofs.Offsets.{IsLocal, on_axis}
-use Rattle.camera.proofs.Active.{drift, near_reach, margin_large}
+use Rattle.camera.proofs.Active.{drift, near_reach, opening_margin_large}
 use Rattle.camera.proofs.RayBack.{IsPixel, pixel_bounds, ray_back}
 
 -- the place of a voxel coordinate in its block
@@ -31,9 +31,9 @@ near_voxel s p n i = plain s p ((pos 2 *ℤ s) *ℤ n) (n *ℤ s) (mul_group (po
     plain s p sn ns e h i = record { low = omega (arith, ints); high = omega (arith, ints) }
 
 -- a point is within half of 9 s of the centre of its nearest voxel's block
-half_way : (s p : ℤ) → pos 1 ≤ℤ s → IsWithin (floor_div (pos 9 *ℤ s) (pos 2)) (p -ℤ (pos 8 *ℤ floor_div (nearest_on s p) (pos 8) +ℤ pos 4) *ℤ s)
+half_way : (s p : ℤ) → pos 1 ≤ℤ s → IsWithin (floor_div (pos 9 *ℤ s) (pos 2)) (p -ℤ (pos 8 *ℤ floor_div (nearest_axis s p) (pos 8) +ℤ pos 4) *ℤ s)
 half_way s p s1 =
-    let n = nearest_on s p in
+    let n = nearest_axis s p in
     let b = floor_div n (pos 8) in
     let x = n -ℤ pos 8 *ℤ b in
     let is = floor_is n (pos 8) (omega (arith, ints)) in
@@ -58,7 +58,7 @@ nearest_step m s p r s1 =
     (record { x = half_way s p.x s1; y = half_way s p.y s1; z = half_way s p.z s1 })
 
 -- the voxel nearest to the world point of a pixel's ray lies in an active block
-pub walk_is_active : (k : CameraFields) (m : Pose) (u v z : ℤ) → HasRanges k → FitsSphere k → IsPose m → IsPixel k u v → pos 1 ≤ℤ z → z ≤ℤ deepest k → IsTrue (is_active k m (block_of_voxel (nearest_voxel k.voxel (world m (ray k u v z)))))
+pub walk_is_active : (k : CameraFields) (m : Pose) (u v z : ℤ) → HasRanges k → FitsSphere k → IsPose m → IsPixel k u v → pos 1 ≤ℤ z → z ≤ℤ max_depth k → IsTrue (is_active k m (block_of_voxel (nearest_voxel k.voxel (world m (ray k u v z)))))
 walk_is_active k m u v z r h o i front back =
     let s = k.voxel in
     let s1 : pos 1 ≤ℤ s = omega (arith, ints, r.voxel) in
@@ -66,7 +66,7 @@ walk_is_active k m u v z r h o i front back =
     let p = world m c in
     let d = cam m (centre_of s (block_of_voxel (nearest_voxel s p))) in
     let b = pixel_bounds k u v z r i front back in
-    let large = margin_large k c.x c.y r b.0 b.1 in
+    let large = opening_margin_large k c.x c.y r b.0 b.1 in
     let w = ray_back k m u v z r o i front back in
     let n = nearest_step m s p o.range s1 in
     near_reach k c d (drift k +ℤ pos 14 *ℤ s) r h b.0 b.1 front back
@@ -74,7 +74,7 @@ walk_is_active k m u v z r h o i front back =
       x = joined (drift k) (pos 14 *ℤ s) c.x (cam m p).x d.x w.x n.x;
       y = joined (drift k) (pos 14 *ℤ s) c.y (cam m p).y d.y w.y n.y;
       z = joined (drift k) (pos 14 *ℤ s) c.z (cam m p).z d.z w.z n.z;
-    }) (fewer (pos 14 *ℤ s) (drift k) (margin k) large.1)
+    }) (fewer (pos 14 *ℤ s) (drift k) (opening_margin k) large.1)
   where
     joined : (d n x y z : ℤ) → IsWithin d (y -ℤ x) → IsWithin n (y -ℤ z) → IsWithin (d +ℤ n) (z -ℤ x)
     joined d n x y z v w = record { low = omega (arith, ints); high = omega (arith, ints) }
@@ -107,19 +107,19 @@ fits_low s p n b s1 le i j = by_lt_z b (neg_ℤ (pos 18876))
     plain : (s p x : ℤ) → pos 1000 ≤ℤ s → (neg_ℤ (pos 151006226)) ≤ℤ p → (pos 2 *ℤ p +ℤ s) <ℤ (x +ℤ pos 2 *ℤ s) → x ≤ℤ (pos 2 *ℤ s *ℤ neg_ℤ (pos 151009)) → ⊥
     plain s p x a b c d = omega (arith, ints)
 
-key_on : (s p : ℤ) → pos 1000 ≤ℤ s → IsWithin (pos 151006226) p → IsBetween (neg_ℤ (pos 18876)) (pos 18876) (floor_div (nearest_on s p) (pos 8))
-key_on s p s1 w =
-    let n = nearest_on s p in
+key_axis : (s p : ℤ) → pos 1000 ≤ℤ s → IsWithin (pos 151006226) p → IsBetween (neg_ℤ (pos 18876)) (pos 18876) (floor_div (nearest_axis s p) (pos 8))
+key_axis s p s1 w =
+    let n = nearest_axis s p in
     let i = floor_is (pos 2 *ℤ p +ℤ s) (pos 2 *ℤ s) (omega (arith, ints)) in
     let j = floor_is n (pos 8) (omega (arith, ints)) in
     record { low = fits_low s p n (floor_div n (pos 8)) s1 w.low i j; high = fits_high s p n (floor_div n (pos 8)) s1 w.high i j }
 
 -- the coordinates of that block fit 16 bits
-pub walk_has_key : (k : CameraFields) (m : Pose) (u v z : ℤ) → HasRanges k → HasReach k → HasPoseRange m → IsPixel k u v → pos 1 ≤ℤ z → z ≤ℤ deepest k → IsTrue (is_key (block_of_voxel (nearest_voxel k.voxel (world m (ray k u v z)))))
+pub walk_has_key : (k : CameraFields) (m : Pose) (u v z : ℤ) → HasRanges k → HasReach k → HasPoseRange m → IsPixel k u v → pos 1 ≤ℤ z → z ≤ℤ max_depth k → IsTrue (is_key (block_of_voxel (nearest_voxel k.voxel (world m (ray k u v z)))))
 walk_has_key k m u v z r h o i front back =
     let w = ray_world k m u v z r h o i.u_low i.u_high i.v_low i.v_high front back in
     let p = world m (ray k u v z) in
-    let x = key_on k.voxel p.x r.voxel w.x in
-    let y = key_on k.voxel p.y r.voxel w.y in
-    let z = key_on k.voxel p.z r.voxel w.z in
+    let x = key_axis k.voxel p.x r.voxel w.x in
+    let y = key_axis k.voxel p.y r.voxel w.y in
+    let z = key_axis k.voxel p.z r.voxel w.z in
     key_holds (block_of_voxel (nearest_voxel k.voxel p)) x.low x.high y.low y.high z.low z.high

@@ -56,16 +56,16 @@ depth_of k raw = if raw == 0 then None else valid_depth k (pos raw *ℤ k.unit)
 -- ---- rays and projection
 
 -- one coordinate of the ray of pixel u at depth z
-abbrev pub ray_on : (f c u z : ℤ) → ℤ
-ray_on f c u z = floor_div ((pos 65536 *ℤ u -ℤ c) *ℤ z) f
+abbrev pub ray_axis : (f c u z : ℤ) → ℤ
+ray_axis f c u z = floor_div ((pos 65536 *ℤ u -ℤ c) *ℤ z) f
 
 -- the point at depth z on the ray of pixel (u, v)
 abbrev pub ray : CameraFields → (u v z : ℤ) → Vec3
-ray k u v z = vec (ray_on k.fx k.cx u z) (ray_on k.fy k.cy v z) z
+ray k u v z = vec (ray_axis k.fx k.cx u z) (ray_axis k.fy k.cy v z) z
 
 -- the pixel nearest to where a point before the camera projects, on one axis
-abbrev pub pixel_on : (f c x z : ℤ) → ℤ
-pixel_on f c x z = floor_div (f *ℤ x +ℤ c *ℤ z +ℤ pos 32768 *ℤ z) (pos 65536 *ℤ z)
+abbrev pub pixel_axis : (f c x z : ℤ) → ℤ
+pixel_axis f c x z = floor_div (f *ℤ x +ℤ c *ℤ z +ℤ pos 32768 *ℤ z) (pos 65536 *ℤ z)
 
 -- whether that pixel is one of the image's
 abbrev pub is_in_image : CameraFields → (u v : ℤ) → Bool
@@ -73,11 +73,11 @@ is_in_image k u v = within (pos 0) (k.width -ℤ pos 1) u && within (pos 0) (k.h
 
 -- whether a camera point projects inside the image: it stands before the camera, and its pixel is one of the image's
 abbrev pub is_inside : CameraFields → Vec3 → Bool
-is_inside k p = int_le (pos 1) p.z && is_in_image k (pixel_on k.fx k.cx p.x p.z) (pixel_on k.fy k.cy p.y p.z)
+is_inside k p = int_le (pos 1) p.z && is_in_image k (pixel_axis k.fx k.cx p.x p.z) (pixel_axis k.fy k.cy p.y p.z)
 
 -- the pixel of the image that a camera point projects to, if any
 abbrev pub project : CameraFields → Vec3 → Option (ℕ × ℕ)
-project k p = if is_inside k p then Some (unsigned_abs (pixel_on k.fx k.cx p.x p.z), unsigned_abs (pixel_on k.fy k.cy p.y p.z)) else None
+project k p = if is_inside k p then Some (unsigned_abs (pixel_axis k.fx k.cx p.x p.z), unsigned_abs (pixel_axis k.fy k.cy p.y p.z)) else None
 
 -- ---- the opening test
 
@@ -94,28 +94,28 @@ abbrev pub half : (width c : ℤ) → ℤ
 half w c = int_max (left c) (pos (unsigned_abs (right w c)))
 
 -- the greatest depth that a frame may touch
-abbrev pub deepest : CameraFields → ℤ
-deepest k = k.far +ℤ k.mu
+abbrev pub max_depth : CameraFields → ℤ
+max_depth k = k.far +ℤ k.mu
 
 -- how far a point of the image may lie from the axis at depth z
-abbrev pub reach_on : (z f width c : ℤ) → ℤ
-reach_on z f w c = floor_div (z *ℤ half w c) f +ℤ pos 1
+abbrev pub reach_axis : (z f width c : ℤ) → ℤ
+reach_axis z f w c = floor_div (z *ℤ half w c) f +ℤ pos 1
 
 -- on the axis x, at the greatest depth
 abbrev pub reach_x : CameraFields → ℤ
-reach_x k = reach_on (deepest k) k.fx k.width k.cx
+reach_x k = reach_axis (max_depth k) k.fx k.width k.cx
 
 -- on the axis y
 abbrev pub reach_y : CameraFields → ℤ
-reach_y k = reach_on (deepest k) k.fy k.height k.cy
+reach_y k = reach_axis (max_depth k) k.fy k.height k.cy
 
 -- how far the depths that a frame may touch lie from the centre of the sphere
 abbrev pub reach_z : CameraFields → ℤ
-reach_z k = int_max k.centre (pos (unsigned_abs (deepest k -ℤ k.centre)))
+reach_z k = int_max k.centre (pos (unsigned_abs (max_depth k -ℤ k.centre)))
 
 -- a margin of less than two blocks, and what rounding may add
-abbrev pub margin : CameraFields → ℤ
-margin k = pos 14 *ℤ k.voxel +ℤ floor_div (reach_x k +ℤ reach_y k +ℤ deepest k) (pos 1024) +ℤ pos 16
+abbrev pub opening_margin : CameraFields → ℤ
+opening_margin k = pos 14 *ℤ k.voxel +ℤ floor_div (reach_x k +ℤ reach_y k +ℤ max_depth k) (pos 1024) +ℤ pos 16
 
 -- z times itself
 abbrev pub square : ℤ → ℤ
@@ -127,7 +127,7 @@ has_reach k = int_le (reach_x k) (pos 17000000) && int_le (reach_y k) (pos 17000
 
 -- the test of FitsSphere
 abbrev pub fits_sphere : CameraFields → Bool
-fits_sphere k = int_le (square (reach_x k +ℤ margin k) +ℤ square (reach_y k +ℤ margin k) +ℤ square (reach_z k +ℤ margin k)) (square k.radius)
+fits_sphere k = int_le (square (reach_x k +ℤ opening_margin k) +ℤ square (reach_y k +ℤ opening_margin k) +ℤ square (reach_z k +ℤ opening_margin k)) (square k.radius)
 
 -- all that a frame may touch lies within 17 metres of the axis
 pub record HasReach (k : CameraFields) : Type 0 where
@@ -136,7 +136,7 @@ pub record HasReach (k : CameraFields) : Type 0 where
 
 -- all that a frame may touch lies in the active sphere, with the margin
 pub record FitsSphere (k : CameraFields) : Type 0 where
-  pub fits : (square (reach_x k +ℤ margin k) +ℤ square (reach_y k +ℤ margin k) +ℤ square (reach_z k +ℤ margin k)) ≤ℤ square k.radius
+  pub fits : (square (reach_x k +ℤ opening_margin k) +ℤ square (reach_y k +ℤ opening_margin k) +ℤ square (reach_z k +ℤ opening_margin k)) ≤ℤ square k.radius
 
 -- a camera that passes all tests
 pub record IsCamera (k : CameraFields) : Type 0 where

@@ -27,24 +27,24 @@ abbrev pub block_at : (s : ℤ) → Vec3 → BlockKey
 block_at s p = block (floor_div p.x (pos 8 *ℤ s)) (floor_div p.y (pos 8 *ℤ s)) (floor_div p.z (pos 8 *ℤ s))
 
 -- the voxel coordinate nearest to a coordinate of a point, the greater one of two
-abbrev pub nearest_on : (s p : ℤ) → ℤ
-nearest_on s p = floor_div (pos 2 *ℤ p +ℤ s) (pos 2 *ℤ s)
+abbrev pub nearest_axis : (s p : ℤ) → ℤ
+nearest_axis s p = floor_div (pos 2 *ℤ p +ℤ s) (pos 2 *ℤ s)
 
 -- the voxel coordinates nearest to a point
 abbrev pub nearest_voxel : (s : ℤ) → Vec3 → Vec3
-nearest_voxel s p = vec (nearest_on s p.x) (nearest_on s p.y) (nearest_on s p.z)
+nearest_voxel s p = vec (nearest_axis s p.x) (nearest_axis s p.y) (nearest_axis s p.z)
 
 -- the block that has the voxel of these coordinates
 abbrev pub block_of_voxel : Vec3 → BlockKey
 block_of_voxel c = block (floor_div c.x (pos 8)) (floor_div c.y (pos 8)) (floor_div c.z (pos 8))
 
 -- how far a voxel coordinate lies from where its block begins, from 0 to 7
-abbrev pub offset_on : ℤ → ℕ
-offset_on c = unsigned_abs (c -ℤ pos 8 *ℤ floor_div c (pos 8))
+abbrev pub offset_axis : ℤ → ℕ
+offset_axis c = unsigned_abs (c -ℤ pos 8 *ℤ floor_div c (pos 8))
 
 -- the index of that voxel in its block
 abbrev pub index_of_voxel : Vec3 → ℕ
-index_of_voxel c = index_of (record { x = offset_on c.x; y = offset_on c.y; z = offset_on c.z })
+index_of_voxel c = index_of (record { x = offset_axis c.x; y = offset_axis c.y; z = offset_axis c.z })
 
 -- ---- keys of 16 bits
 

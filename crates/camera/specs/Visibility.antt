@@ -7,22 +7,22 @@ use Rattle.fixed_geom.specs.Vectors.{vec}
 use Rattle.fixed_geom.specs.Poses.{Pose, cam}
 use Rattle.voxel_block.specs.declared.key.BlockKey.{BlockKey}
 use Rattle.camera.specs.declared.camera.CameraFields.{CameraFields}
-use Rattle.camera.specs.Cameras.{deepest, is_inside, left, right, within}
+use Rattle.camera.specs.Cameras.{max_depth, is_inside, left, right, within}
 use Rattle.camera.specs.Grid.{centre_of, point_of}
 
 -- ---- the visibility test
 
 -- how far from the camera point of a block's centre the test looks on each axis: 14 voxels
-abbrev pub looks_round : CameraFields → ℤ
-looks_round k = pos 14 *ℤ k.voxel
+abbrev pub margin : CameraFields → ℤ
+margin k = pos 14 *ℤ k.voxel
 
 -- the greatest depth that a frame may touch so near to the depth z
 abbrev pub side_depth : CameraFields → (z : ℤ) → ℤ
-side_depth k z = int_min (z +ℤ looks_round k) (deepest k)
+side_depth k z = int_min (z +ℤ margin k) (max_depth k)
 
 -- whether so near to the depth z there may be depths that a frame may touch
 abbrev pub is_at_depth : CameraFields → (z : ℤ) → Bool
-is_at_depth k z = int_le (pos 1) (z +ℤ looks_round k) && int_le (z -ℤ looks_round k) (deepest k)
+is_at_depth k z = int_le (pos 1) (z +ℤ margin k) && int_le (z -ℤ margin k) (max_depth k)
 
 -- whether what is within n of x on one axis reaches between the two sides of the image, as far apart as they are at the depth h
 abbrev pub is_between_sides : (f c size n x h : ℤ) → Bool
@@ -30,7 +30,7 @@ is_between_sides f c size n x h = int_le (neg_ℤ (left c *ℤ h)) (f *ℤ (x +�
 
 -- whether so near to a camera point there may be points between the left and the right side, and between the upper and the lower one
 abbrev pub is_in_view : CameraFields → Vec3 → Bool
-is_in_view k c = is_between_sides k.fx k.cx k.width (looks_round k) c.x (side_depth k c.z) && is_between_sides k.fy k.cy k.height (looks_round k) c.y (side_depth k c.z)
+is_in_view k c = is_between_sides k.fx k.cx k.width (margin k) c.x (side_depth k c.z) && is_between_sides k.fy k.cy k.height (margin k) c.y (side_depth k c.z)
 
 -- whether a block whose centre has the camera point c may be seen
 abbrev pub may_be_seen_at : CameraFields → Vec3 → Bool
@@ -45,7 +45,7 @@ may_be_seen k m b = may_be_seen_at k (cam m (centre_of k.voxel b))
 -- a camera point projects inside the image, at a depth of at most far and mu together (inside has a depth of at least 1)
 pub record IsMetAt (k : CameraFields) (p : Vec3) : Type 0 where
   pub inside : IsTrue (is_inside k p)
-  pub deep : p.z ≤ℤ deepest k
+  pub deep : p.z ≤ℤ max_depth k
 
 -- voxel i of block b is met before the camera at a pose, whatever the frame: a frame's depths decide then whether it changes
 abbrev pub IsMet : CameraFields → Pose → BlockKey → (i : ℕ) → Type 0

@@ -1,6 +1,6 @@
 ghost use Rattle.std.specs.Prelude.{◌≡◌, ◌^◌, ◌<◌, ◌+◌, ◌↔◌, false, pos, ◌≤ℤ◌, ◌<ℤ◌, Ok, Err, Some, IfOk, IfSome, ℕ};
 ghost use Rattle.fixed_geom.specs.Vectors.{AreWithin};
-ghost use Rattle.camera.specs.Cameras.{IsCamera, HasRanges, HasReach, FitsSphere, deepest, depth_of, ray as ray_of, project as pixel_of, is_active};
+ghost use Rattle.camera.specs.Cameras.{IsCamera, HasRanges, HasReach, FitsSphere, max_depth, depth_of, ray as ray_of, project as pixel_of, is_active};
 ghost use Rattle.camera.specs.Grid.{key_at, nearest as nearest_of, nearest_voxel, voxel_coordinates, point_of, centre_of};
 ghost use Rattle.camera.specs.Opening.{camera_of, camera_tests, first_failing};
 ghost use Rattle.camera.specs.Visibility.{MeetsNone, may_be_seen};
@@ -107,7 +107,7 @@ impl Camera {
         requires column { pos u <ℤ self.now.width }
         requires row { pos v <ℤ self.now.height }
         requires front { pos 1 ≤ℤ z }
-        requires deep { z ≤ℤ deepest self.now }
+        requires deep { z ≤ℤ max_depth self.now }
         ensures value { result ≡ ray_of self.now (pos u) (pos v) z }
         ensures bound { AreWithin (pos 17000000) result }
     {

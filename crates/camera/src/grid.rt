@@ -1,6 +1,6 @@
 ghost use Rattle.std.specs.Prelude.{◌≡◌, ◌^◌, ◌<◌, pos, ◌+ℤ◌, ◌*ℤ◌, ◌≤ℤ◌, Some, None, IfSome, if◌then◌else◌};
 ghost use Rattle.fixed_geom.specs.Vectors.{AreWithin, IsWithin};
-ghost use Rattle.camera.specs.Grid.{centre_of, point_of, block, fits_key, as_key, key_at, nearest as nearest_of, nearest_voxel as nearest_voxel_of, nearest_on as nearest_on_of, block_of_voxel as block_of_voxel_of, index_of_voxel as index_of_voxel_of, offset_on as offset_on_of, voxel_coordinates};
+ghost use Rattle.camera.specs.Grid.{centre_of, point_of, block, fits_key, as_key, key_at, nearest as nearest_of, nearest_voxel as nearest_voxel_of, nearest_axis as nearest_axis_of, block_of_voxel as block_of_voxel_of, index_of_voxel as index_of_voxel_of, offset_axis as offset_axis_of, voxel_coordinates};
 
 use fixed_geom::Vec3;
 use voxel_block::BlockKey;
@@ -66,14 +66,14 @@ fn key(x: i64, y: i64, z: i64) -> Option<BlockKey>
     ensures { result ≡ as_key (block x y z) }
 {
     Some(BlockKey {
-        x: key_on(x)?,
-        y: key_on(y)?,
-        z: key_on(z)?,
+        x: key_axis(x)?,
+        y: key_axis(y)?,
+        z: key_axis(z)?,
     })
 }
 
 /// A coordinate of a block as a key has it. `None` where it does not fit 16 bits.
-fn key_on(coordinate: i64) -> Option<i16>
+fn key_axis(coordinate: i64) -> Option<i16>
     ensures { result ≡ (if fits_key coordinate then Some coordinate else None) }
 {
     i16::try_from(coordinate).ok()
@@ -87,18 +87,18 @@ fn nearest_voxel(size: i64, p: Vec3) -> Vec3
     ensures { result ≡ nearest_voxel_of size p }
 {
     Vec3 {
-        x: nearest_on(size, p.x),
-        y: nearest_on(size, p.y),
-        z: nearest_on(size, p.z),
+        x: nearest_axis(size, p.x),
+        y: nearest_axis(size, p.y),
+        z: nearest_axis(size, p.z),
     }
 }
 
 /// The voxel coordinate nearest to a coordinate of a point, the greater one of two.
-fn nearest_on(size: i64, p: i64) -> i64
+fn nearest_axis(size: i64, p: i64) -> i64
     requires size { pos 1 ≤ℤ size }
     requires size_high { size ≤ℤ pos 100000 }
     requires p { IsWithin (pos (2 ^ 40)) p }
-    ensures { result ≡ nearest_on_of size p }
+    ensures { result ≡ nearest_axis_of size p }
 {
     (2 * p + size).div_euclid(2 * size)
 }
@@ -119,12 +119,12 @@ fn index_of_voxel(voxel: Vec3) -> u16
     ensures value { result ≡ index_of_voxel_of voxel }
     ensures bound { result < 512 }
 {
-    offset_on(voxel.x) + 8 * offset_on(voxel.y) + 64 * offset_on(voxel.z)
+    offset_axis(voxel.x) + 8 * offset_axis(voxel.y) + 64 * offset_axis(voxel.z)
 }
 
 /// How far a voxel coordinate lies from where its block begins.
-fn offset_on(coordinate: i64) -> u16
-    ensures value { result ≡ offset_on_of coordinate }
+fn offset_axis(coordinate: i64) -> u16
+    ensures value { result ≡ offset_axis_of coordinate }
     ensures bound { result < 8 }
 {
     coordinate.rem_euclid(8) as u16

@@ -1,7 +1,7 @@
 ghost use Rattle.std.specs.Prelude.{◌≡◌, ◌+◌, ◌<◌, ◌≤ℤ◌, ◌*ℤ◌, ◌+ℤ◌, ◌-ℤ◌, ◌&&◌, int_le, neg_ℤ, pos, Ok, Err, Some, None, drop, take, length, unsigned_abs, if◌then◌else◌, IsTrue};
 ghost use Rattle.std.specs.Int.{int_max};
 ghost use Rattle.fixed_geom.specs.Division.{floor_div};
-ghost use Rattle.camera.specs.Cameras.{within as is_within, HasRanges, left as left_of, right as right_of, half as half_of, deepest as deepest_of, reach_on, reach_x as reach_x_of, reach_y as reach_y_of, square as square_of, fits_sphere as fits_sphere_of, has_reach as has_reach_of};
+ghost use Rattle.camera.specs.Cameras.{within as is_within, HasRanges, left as left_of, right as right_of, half as half_of, max_depth as max_depth_of, reach_axis, reach_x as reach_x_of, reach_y as reach_y_of, square as square_of, fits_sphere as fits_sphere_of, has_reach as has_reach_of};
 ghost use Rattle.camera.specs.Opening.{camera_tests, first_failing as first_failing_of};
 ghost use Rattle.camera.specs.declared.camera.BadCamera.TheVariants.{Reach, Sphere};
 
@@ -142,15 +142,15 @@ fn reach(z: i64, focal: i64, size: i64, c: i64) -> i64
     requires size_high { size ≤ℤ pos 2048 }
     requires c { pos 0 ≤ℤ c }
     requires c_high { c ≤ℤ pos 134217728 }
-    ensures value { result ≡ reach_on z focal size c }
+    ensures value { result ≡ reach_axis z focal size c }
     ensures low { pos 0 ≤ℤ result }
 {
     floor(product(z, half(size, c)), focal) + 1
 }
 
-fn deepest(k: CameraFields) -> i64
+fn max_depth(k: CameraFields) -> i64
     requires { HasRanges k }
-    ensures value { result ≡ deepest_of k }
+    ensures value { result ≡ max_depth_of k }
     ensures low { pos 0 ≤ℤ result }
     ensures high { result ≤ℤ pos 17000000 }
 {
@@ -162,7 +162,7 @@ fn reach_x(k: CameraFields) -> i64
     ensures value { result ≡ reach_x_of k }
     ensures low { pos 0 ≤ℤ result }
 {
-    reach(deepest(k), k.fx, k.width, k.cx)
+    reach(max_depth(k), k.fx, k.width, k.cx)
 }
 
 fn reach_y(k: CameraFields) -> i64
@@ -170,19 +170,19 @@ fn reach_y(k: CameraFields) -> i64
     ensures value { result ≡ reach_y_of k }
     ensures low { pos 0 ≤ℤ result }
 {
-    reach(deepest(k), k.fy, k.height, k.cy)
+    reach(max_depth(k), k.fy, k.height, k.cy)
 }
 
-fn reach_z(deepest: i64, centre: i64) -> i64
-    requires deepest { pos 0 ≤ℤ deepest }
-    requires deepest_high { deepest ≤ℤ pos 17000000 }
+fn reach_z(max_depth: i64, centre: i64) -> i64
+    requires max_depth { pos 0 ≤ℤ max_depth }
+    requires max_depth_high { max_depth ≤ℤ pos 17000000 }
     requires centre { pos 0 ≤ℤ centre }
     requires centre_high { centre ≤ℤ pos 17000000 }
-    ensures value { result ≡ int_max centre (pos (unsigned_abs (deepest -ℤ centre))) }
+    ensures value { result ≡ int_max centre (pos (unsigned_abs (max_depth -ℤ centre))) }
     ensures low { pos 0 ≤ℤ result }
     ensures high { result ≤ℤ pos 17000000 }
 {
-    centre.max((deepest - centre).abs())
+    centre.max((max_depth - centre).abs())
 }
 
 // What rounding may add to a margin.
@@ -200,7 +200,7 @@ fn rounding(x: i64, y: i64, z: i64) -> i64
     floor(x + y + z, 1024)
 }
 
-fn margin(voxel: i64, rounding: i64) -> i64
+fn opening_margin(voxel: i64, rounding: i64) -> i64
     requires voxel { pos 0 ≤ℤ voxel }
     requires voxel_high { voxel ≤ℤ pos 100000 }
     requires rounding { pos 0 ≤ℤ rounding }
@@ -222,16 +222,16 @@ fn square(n: i64) -> i64
     n * n
 }
 
-fn wide_square(a: i64, margin: i64) -> i64
+fn wide_square(a: i64, opening_margin: i64) -> i64
     requires a { pos 0 ≤ℤ a }
     requires a_high { a ≤ℤ pos 17000000 }
-    requires margin { pos 0 ≤ℤ margin }
-    requires margin_high { margin ≤ℤ pos 53000000 }
-    ensures value { result ≡ square_of (a +ℤ margin) }
+    requires opening_margin { pos 0 ≤ℤ opening_margin }
+    requires opening_margin_high { opening_margin ≤ℤ pos 53000000 }
+    ensures value { result ≡ square_of (a +ℤ opening_margin) }
     ensures low { pos 0 ≤ℤ result }
     ensures high { result ≤ℤ pos 10000000000000000 }
 {
-    square(a + margin)
+    square(a + opening_margin)
 }
 
 fn in_reach(x: i64, y: i64) -> bool
@@ -241,22 +241,22 @@ fn in_reach(x: i64, y: i64) -> bool
     x <= MAX_REACH && y <= MAX_REACH
 }
 
-fn is_in_sphere(x: i64, y: i64, z: i64, margin: i64, radius: i64) -> bool
+fn is_in_sphere(x: i64, y: i64, z: i64, opening_margin: i64, radius: i64) -> bool
     requires x { pos 0 ≤ℤ x }
     requires x_high { x ≤ℤ pos 17000000 }
     requires y { pos 0 ≤ℤ y }
     requires y_high { y ≤ℤ pos 17000000 }
     requires z { pos 0 ≤ℤ z }
     requires z_high { z ≤ℤ pos 17000000 }
-    requires margin { pos 0 ≤ℤ margin }
-    requires margin_high { margin ≤ℤ pos 53000000 }
+    requires opening_margin { pos 0 ≤ℤ opening_margin }
+    requires opening_margin_high { opening_margin ≤ℤ pos 53000000 }
     requires radius { pos 0 ≤ℤ radius }
     requires radius_high { radius ≤ℤ pos 100000000 }
-    ensures { result ≡ int_le (square_of (x +ℤ margin) +ℤ square_of (y +ℤ margin) +ℤ square_of (z +ℤ margin)) (square_of radius) }
+    ensures { result ≡ int_le (square_of (x +ℤ opening_margin) +ℤ square_of (y +ℤ opening_margin) +ℤ square_of (z +ℤ opening_margin)) (square_of radius) }
 {
-    let x = wide_square(x, margin);
-    let y = wide_square(y, margin);
-    let z = wide_square(z, margin);
+    let x = wide_square(x, opening_margin);
+    let y = wide_square(y, opening_margin);
+    let z = wide_square(z, opening_margin);
     x + y + z <= square(radius)
 }
 
@@ -270,8 +270,8 @@ fn fits_sphere(k: CameraFields, x: i64, y: i64) -> bool
     requires y_high { y ≤ℤ pos 17000000 }
     ensures { result ≡ fits_sphere_of k }
 {
-    let z = deepest(k);
-    let m = margin(k.voxel, rounding(x, y, z));
+    let z = max_depth(k);
+    let m = opening_margin(k.voxel, rounding(x, y, z));
     is_in_sphere(x, y, reach_z(z, k.centre), m, k.radius)
 }
 

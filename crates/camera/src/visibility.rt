@@ -1,8 +1,8 @@
 ghost use Rattle.std.specs.Prelude.{◌≡◌, ◌^◌, ◌≤◌, pos, neg_ℤ, ◌+ℤ◌, ◌-ℤ◌, ◌*ℤ◌, ◌≤ℤ◌, int_le, unsigned_abs};
 ghost use Rattle.std.specs.Int.{int_max};
 ghost use Rattle.fixed_geom.specs.Vectors.{AreWithin, IsWithin};
-ghost use Rattle.camera.specs.Cameras.{HasRanges, deepest as deepest_of, left as left_of, right as right_of};
-ghost use Rattle.camera.specs.Visibility.{is_at_depth as is_at_depth_of, is_between_sides as is_between_sides_of, is_in_view as is_in_view_of, looks_round as looks_round_of, may_be_seen_at, side_depth as side_depth_of};
+ghost use Rattle.camera.specs.Cameras.{HasRanges, max_depth as max_depth_of, left as left_of, right as right_of};
+ghost use Rattle.camera.specs.Visibility.{is_at_depth as is_at_depth_of, is_between_sides as is_between_sides_of, is_in_view as is_in_view_of, margin as margin_of, may_be_seen_at, side_depth as side_depth_of};
 
 use crate::camera::CameraFields;
 use fixed_geom::Vec3;
@@ -23,8 +23,8 @@ fn is_at_depth(camera: &CameraFields, z: i64) -> bool
     requires z { IsWithin (pos (2 ^ 42)) z }
     ensures { result ≡ is_at_depth_of camera.now z }
 {
-    let round = looks_round(camera);
-    1 <= z + round && z - round <= deepest(camera)
+    let round = margin(camera);
+    1 <= z + round && z - round <= max_depth(camera)
 }
 
 /// Whether points between the sides of the image are near this camera point.
@@ -40,9 +40,9 @@ fn is_in_view(camera: &CameraFields, centre: Vec3) -> bool
 fn is_in_columns(camera: &CameraFields, centre: Vec3) -> bool
     requires camera { HasRanges camera.now }
     requires centre { AreWithin (pos (2 ^ 42)) centre }
-    ensures { result ≡ is_between_sides_of camera.now.fx camera.now.cx camera.now.width (looks_round_of camera.now) centre.x (side_depth_of camera.now centre.z) }
+    ensures { result ≡ is_between_sides_of camera.now.fx camera.now.cx camera.now.width (margin_of camera.now) centre.x (side_depth_of camera.now centre.z) }
 {
-    let (round, depth) = (looks_round(camera), side_depth(camera, centre.z));
+    let (round, depth) = (margin(camera), side_depth(camera, centre.z));
     is_between_sides(camera.fx, camera.cx, camera.width, round, centre.x, depth)
 }
 
@@ -50,25 +50,25 @@ fn is_in_columns(camera: &CameraFields, centre: Vec3) -> bool
 fn is_in_rows(camera: &CameraFields, centre: Vec3) -> bool
     requires camera { HasRanges camera.now }
     requires centre { AreWithin (pos (2 ^ 42)) centre }
-    ensures { result ≡ is_between_sides_of camera.now.fy camera.now.cy camera.now.height (looks_round_of camera.now) centre.y (side_depth_of camera.now centre.z) }
+    ensures { result ≡ is_between_sides_of camera.now.fy camera.now.cy camera.now.height (margin_of camera.now) centre.y (side_depth_of camera.now centre.z) }
 {
-    let (round, depth) = (looks_round(camera), side_depth(camera, centre.z));
+    let (round, depth) = (margin(camera), side_depth(camera, centre.z));
     is_between_sides(camera.fy, camera.cy, camera.height, round, centre.y, depth)
 }
 
 /// How far from the camera point of a block's centre the test looks: 14 voxels.
-fn looks_round(camera: &CameraFields) -> i64
+fn margin(camera: &CameraFields) -> i64
     requires { HasRanges camera.now }
-    ensures value { result ≡ looks_round_of camera.now }
+    ensures value { result ≡ margin_of camera.now }
     ensures bound { IsWithin (pos 1400000) result }
 {
     14 * camera.voxel
 }
 
 /// The greatest depth that a frame may touch.
-fn deepest(camera: &CameraFields) -> i64
+fn max_depth(camera: &CameraFields) -> i64
     requires { HasRanges camera.now }
-    ensures value { result ≡ deepest_of camera.now }
+    ensures value { result ≡ max_depth_of camera.now }
     ensures bound { IsWithin (pos 17000000) result }
 {
     camera.far + camera.mu
@@ -81,7 +81,7 @@ fn side_depth(camera: &CameraFields, z: i64) -> i64
     ensures value { result ≡ side_depth_of camera.now z }
     ensures bound { IsWithin (pos (2 ^ 43)) result }
 {
-    (z + looks_round(camera)).min(deepest(camera))
+    (z + margin(camera)).min(max_depth(camera))
 }
 
 /// Whether what is within `round` of `x` reaches between both sides of the image at a depth.

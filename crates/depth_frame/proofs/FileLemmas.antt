@@ -9,7 +9,7 @@ use Rattle.depth_frame.specs.declared.error.BadPgm.{BadPgm}
 use Rattle.depth_frame.specs.declared.header.Mark.{Mark}
 use Rattle.depth_frame.specs.declared.header.Number.{Number}
 use Rattle.depth_frame.specs.declared.header.Shape.{Shape}
-use Rattle.depth_frame.specs.Files.{Piece, white, comment, ends_comment, piece_bytes, is_piece, Gap, gap_bytes, is_gap, number_of, IsNumber, SampleBytes, sample_of, sample_bytes, IsSample, File, file_raster, file_bytes, IsFile, file_picture}
+use Rattle.depth_frame.specs.Files.{Piece, white, comment, ends_comment, piece_bytes, is_piece, Gap, gap_bytes, is_gap, number_of, IsNumber, SampleBytes, sample_of, sample_bytes, IsSample, File, file_raster, file_bytes, IsFile, file_depth_map}
 use Rattle.depth_frame.specs.Pgm.{gap_end, mark, with_digit, number_at, judged_at, side_judged, maxval_judged, magic_at, header_at, is_wide, sample_len, with_sample, one_sample, raster_at, pgm_at, starts_gap, is_white, in_gap, in_comment, pgm_of, placed}
 use Rattle.scan_io.specs.Steps.{◌>>=◌}
 use Rattle.scan_io.specs.Reading.{turned}
@@ -147,7 +147,7 @@ header_size g dw h dh k dm b = simp length-append (omega arith)
 white_no_digit : (b : ℕ) → is_white b ≡ true → is_ascii_digit b ≡ false
 white_no_digit b h = grind (arith, nat_tests)
 
-pub file_is_read : (f : File) (t : List ℕ) → IsFile f → pgm_at (file_bytes f ++ t) ≡ Ok (file_picture f, t)
+pub file_is_read : (f : File) (t : List ℕ) → IsFile f → pgm_at (file_bytes f ++ t) ≡ Ok (file_depth_map f, t)
 file_is_read f t h =
     let size = header_size (gap_bytes f.before_width) f.width (gap_bytes f.before_height) f.height (gap_bytes f.before_maxval) f.maxval f.behind_maxval in
     let low : 2 + length (gap_bytes f.before_width) + length f.width + length (gap_bytes f.before_height) + length f.height + length (gap_bytes f.before_maxval) + length f.maxval + 1 ≤ 4096 = omega (arith, h.header) in
@@ -189,6 +189,6 @@ file_is_read f t h =
     ∙ ap (λ (k : ℕ). raster_at (number_of f.maxval) k (ma + 1) u >>= λ q. Ok (record { width = number_of f.width; height = number_of f.height; raw = q.0 }, q.1)) (sym h.count)
     ∙ ap (λ (r : Result (List ℕ × List ℕ) BadPgm). r >>= λ q. Ok (record { width = number_of f.width; height = number_of f.height; raw = q.0 }, q.1)) (raster_read (number_of f.maxval) f.samples (ma + 1) t h.samples)
 
-pub file_is_read_behind : (start : ℕ) (f : File) (t : List ℕ) → IsFile f → pgm_of start (file_bytes f ++ t) ≡ Ok (file_picture f, t)
+pub file_is_read_behind : (start : ℕ) (f : File) (t : List ℕ) → IsFile f → pgm_of start (file_bytes f ++ t) ≡ Ok (file_depth_map f, t)
 unfolding pgm_of
 file_is_read_behind start f t h = ap (turned (placed start)) (file_is_read f t h)

@@ -10,11 +10,11 @@ use Rattle.depth_frame.specs.declared.error.PgmKind.TheVariants.{Magic, Header, 
 use Rattle.depth_frame.specs.declared.header.Mark.{Mark}
 use Rattle.depth_frame.specs.declared.header.Number.{Number}
 use Rattle.depth_frame.specs.declared.header.Shape.{Shape}
-use Rattle.depth_frame.specs.Pictures.{Picture}
+use Rattle.depth_frame.specs.DepthMaps.{DepthMap}
 use Rattle.depth_frame.specs.Files.{Piece, white, comment, ends_comment, piece_bytes, is_piece, Gap, gap_bytes, is_gap, number_of, SampleBytes, sample_of, sample_bytes, IsSample, File, FoundFile}
 use Rattle.depth_frame.specs.Pgm.{gap_end, mark, fault, header_limit, number_end, with_digit, number_at, judged_at, side_judged, maxval_judged, magic_at, header_at, is_wide, sample_len, with_sample, one_sample, raster_at, pgm_at, starts_gap, is_white, in_comment, pgm_of, placed, short, is_magic}
 use Rattle.depth_frame.proofs.FileLemmas.{together, header_size}
-use Rattle.depth_frame.proofs.PgmLemmas.{shape, header_width, header_height, header_most, file_raster as raster_of, picture}
+use Rattle.depth_frame.proofs.PgmLemmas.{shape, header_width, header_height, header_most, file_raster as raster_of, depth_map}
 use Rattle.scan_io.specs.Steps.{◌>>=◌}
 use Rattle.scan_io.specs.Reading.{byte_at, turned}
 
@@ -420,20 +420,20 @@ found_by text s t vs u f h =
     let back = subst (λ (x : Shape). FoundFile (80 ∷ 53 ∷ f.byte ∷ f.rest) (record { width = x.width; height = x.height; raw = vs }) u) f.is file in
     subst (λ (l : List ℕ). FoundFile l (record { width = s.width; height = s.height; raw = vs }) u) (sym f.magic.is) back
 
-pub file_found : (text : List ℕ) (p : Picture) (u : List ℕ) → pgm_at text ≡ Ok (p, u) → FoundFile text p u
+pub file_found : (text : List ℕ) (p : DepthMap) (u : List ℕ) → pgm_at text ≡ Ok (p, u) → FoundFile text p u
 unfolding pgm_at
 file_found text p u h =
     let s = bind_ok (header_at text) (λ s. raster_of s.0 s.1) (p, u) h in
-    let r = bind_ok (raster_at s.0.0.most (s.0.0.width * s.0.0.height) s.0.0.start s.0.1) (λ q. Ok (picture s.0.0 q.0, q.1)) (p, u) s.2 in
+    let r = bind_ok (raster_at s.0.0.most (s.0.0.width * s.0.0.height) s.0.0.start s.0.1) (λ q. Ok (depth_map s.0.0 q.0, q.1)) (p, u) s.2 in
     let q = ok_is r.2 in
-    let same : picture s.0.0 r.0.0 ≡ p = ap (λ (x : Picture × List ℕ). x.0) q in
-    let rest : r.0.1 ≡ u = ap (λ (x : Picture × List ℕ). x.1) q in
-    subst (λ (x : Picture). FoundFile text x u) same (found_by text s.0.0 s.0.1 r.0.0 u (header_found text s.0.0 s.0.1 s.1) (r.1 ∙ ap (λ (l : List ℕ). Ok (r.0.0, l)) rest))
+    let same : depth_map s.0.0 r.0.0 ≡ p = ap (λ (x : DepthMap × List ℕ). x.0) q in
+    let rest : r.0.1 ≡ u = ap (λ (x : DepthMap × List ℕ). x.1) q in
+    subst (λ (x : DepthMap). FoundFile text x u) same (found_by text s.0.0 s.0.1 r.0.0 u (header_found text s.0.0 s.0.1 s.1) (r.1 ∙ ap (λ (l : List ℕ). Ok (r.0.0, l)) rest))
 
 turned_ok : {A : Type 0} (f : BadPgm → BadPgm) (r : Result A BadPgm) (y : A) → turned f r ≡ Ok y → r ≡ Ok y
 turned_ok f (Ok x) y h = cc
 turned_ok f (Err why) y h = absurd cc
 
-pub file_found_behind : (start : ℕ) (text : List ℕ) (p : Picture) (u : List ℕ) → pgm_of start text ≡ Ok (p, u) → FoundFile text p u
+pub file_found_behind : (start : ℕ) (text : List ℕ) (p : DepthMap) (u : List ℕ) → pgm_of start text ≡ Ok (p, u) → FoundFile text p u
 unfolding pgm_of
 file_found_behind start text p u h = file_found text p u (turned_ok (placed start) (pgm_at text) (p, u) h)

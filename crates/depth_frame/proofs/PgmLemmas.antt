@@ -8,7 +8,7 @@ use Rattle.depth_frame.specs.declared.error.PgmKind.TheVariants.{Magic, Header}
 use Rattle.depth_frame.specs.declared.header.Mark.{Mark}
 use Rattle.depth_frame.specs.declared.header.Number.{Number}
 use Rattle.depth_frame.specs.declared.header.Shape.{Shape}
-use Rattle.depth_frame.specs.Pictures.{Picture}
+use Rattle.depth_frame.specs.DepthMaps.{DepthMap}
 use Rattle.std.proofs.Math.Nat.{pow-suc, pow-le-pow_right}
 use Rattle.depth_frame.specs.Pgm.{short, gap_behind, gap_end, in_gap, in_comment, mark, fault, number_behind, number_end, with_digit, number_at, judged_at, is_magic, starts_gap, magic_at, header_at, side_judged, maxval_judged, one_sample, sample_judged, is_wide, sample_len, with_sample, raster_at, pgm_at, placed}
 use Rattle.depth_frame.specs.Runs.{with_front, raster_further}
@@ -166,11 +166,11 @@ raster_whole vs most j n is t = rw (is, append-nil) refl
 
 -- ---- the file
 
-abbrev pub picture : Shape → List ℕ → Picture
-picture s raw = record { width = s.width; height = s.height; raw = raw }
+abbrev pub depth_map : Shape → List ℕ → DepthMap
+depth_map s raw = record { width = s.width; height = s.height; raw = raw }
 
-abbrev pub file_raster : Shape → List ℕ → Result (Picture × List ℕ) BadPgm
-file_raster s t = raster_at s.most (s.width * s.height) s.start t >>= λ p. Ok (picture s p.0, p.1)
+abbrev pub file_raster : Shape → List ℕ → Result (DepthMap × List ℕ) BadPgm
+file_raster s t = raster_at s.most (s.width * s.height) s.start t >>= λ p. Ok (depth_map s p.0, p.1)
 
 pub file_split : (t : List ℕ) → pgm_at t ≡ (header_at t >>= λ p. file_raster p.0 p.1)
 unfolding pgm_at

@@ -14,7 +14,7 @@ use Rattle.depth_frame.specs.declared.error.BadPgm.{BadPgm}
 use Rattle.depth_frame.specs.declared.header.Mark.{Mark}
 use Rattle.depth_frame.specs.declared.header.Number.{Number}
 use Rattle.depth_frame.specs.declared.header.Shape.{Shape}
-use Rattle.depth_frame.specs.Pictures.{Picture}
+use Rattle.depth_frame.specs.DepthMaps.{DepthMap}
 use Rattle.depth_frame.specs.Pgm.{gap_end, mark, number_end, with_digit, number_at, judged_at, side_judged, maxval_judged, magic_at, header_at, one_sample, raster_at, pgm_at, pgm_text, starts_gap, is_white, in_gap, with_sample, sample_len, HasSides, pgm_of, placed}
 use Rattle.scan_io.specs.Steps.{◌>>=◌}
 use Rattle.scan_io.specs.Reading.{turned}
@@ -136,10 +136,10 @@ raster_read (v ∷ vs) n t small =
 spells_most : Spells 65535 (codes "65535")
 spells_most = record { digits = refl; value = refl; some = omega arith }
 
-spelled : (p : Picture) (t : List ℕ) → pgm_text p ++ t ≡ 80 ∷ 53 ∷ 10 ∷ (decimal p.width ++ 32 ∷ (decimal p.height ++ 10 ∷ (codes "65535" ++ 10 ∷ (flat_map (to_be_bytes w16) p.raw ++ t))))
+spelled : (p : DepthMap) (t : List ℕ) → pgm_text p ++ t ≡ 80 ∷ 53 ∷ 10 ∷ (decimal p.width ++ 32 ∷ (decimal p.height ++ 10 ∷ (codes "65535" ++ 10 ∷ (flat_map (to_be_bytes w16) p.raw ++ t))))
 spelled p t = simp append_assoc
 
-pub file_read : (p : Picture) (t : List ℕ) → HasSides p → length p.raw ≡ p.width * p.height → ((i : ℕ) → get_or p.raw i 0 < 2 ^ 16) → pgm_at (pgm_text p ++ t) ≡ Ok (p, t)
+pub file_read : (p : DepthMap) (t : List ℕ) → HasSides p → length p.raw ≡ p.width * p.height → ((i : ℕ) → get_or p.raw i 0 < 2 ^ 16) → pgm_at (pgm_text p ++ t) ≡ Ok (p, t)
 file_read p t sides size small =
     let few_w : length (decimal p.width) ≤ 9 = length-decimal-le 9 p.width (omega arith) (omega arith) (omega arith) in
     let few_h : length (decimal p.height) ≤ 9 = length-decimal-le 9 p.height (omega arith) (omega arith) (omega arith) in
@@ -153,6 +153,6 @@ file_read p t sides size small =
     ∙ ap (λ (r : Result (List ℕ × List ℕ) BadPgm). r >>= λ q. Ok (record { width = p.width; height = p.height; raw = q.0 }, q.1)) (raster_read p.raw start t small)
 
 -- it is so behind any number of bytes
-pub file_read_behind : (start : ℕ) (p : Picture) (t : List ℕ) → HasSides p → length p.raw ≡ p.width * p.height → ((i : ℕ) → get_or p.raw i 0 < 2 ^ 16) → pgm_of start (pgm_text p ++ t) ≡ Ok (p, t)
+pub file_read_behind : (start : ℕ) (p : DepthMap) (t : List ℕ) → HasSides p → length p.raw ≡ p.width * p.height → ((i : ℕ) → get_or p.raw i 0 < 2 ^ 16) → pgm_of start (pgm_text p ++ t) ≡ Ok (p, t)
 unfolding pgm_of
 file_read_behind start p t sides size small = ap (turned (placed start)) (file_read p t sides size small)

@@ -2,7 +2,7 @@
 use Rattle.std.specs.Prelude.{◌≡◌, ℕ, ◌+◌, ◌*◌, ◌≤◌, ◌||◌, ◌&&◌, ◌==◌, not, Bool, true, false, if◌then◌else◌, List, [], ◌∷◌, ◌++◌, map, length, codes}
 use Rattle.std.specs.Char.{is_ascii_digit}
 use Rattle.std.specs.List.{All, flat_map, fold, list_all}
-use Rattle.depth_frame.specs.Pictures.{Picture}
+use Rattle.depth_frame.specs.DepthMaps.{DepthMap}
 use Rattle.depth_frame.specs.Pgm.{is_white, is_wide, with_digit}
 
 -- ---- gaps
@@ -112,12 +112,12 @@ pub record IsFile (f : File) : Type 0 where
   pub count : length f.samples ≡ number_of f.width * number_of f.height
 
 -- the depth map that it is
-abbrev pub file_picture : File → Picture
-file_picture f = record { width = number_of f.width; height = number_of f.height; raw = map sample_of f.samples }
+abbrev pub file_depth_map : File → DepthMap
+file_depth_map f = record { width = number_of f.width; height = number_of f.height; raw = map sample_of f.samples }
 
 -- a text begins with a file of that depth map, and rest follows it
-pub record FoundFile (text : List ℕ) (p : Picture) (rest : List ℕ) : Type 0 where
+pub record FoundFile (text : List ℕ) (p : DepthMap) (rest : List ℕ) : Type 0 where
   pub file : File
   pub proper : IsFile file
   pub is : text ≡ file_bytes file ++ rest
-  pub value : file_picture file ≡ p
+  pub value : file_depth_map file ≡ p

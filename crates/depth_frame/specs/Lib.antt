@@ -1,5 +1,5 @@
+pub mod DepthMaps
 pub mod Errors
 pub mod Files
 pub mod Pgm
-pub mod Pictures
 pub mod Runs

@@ -10,7 +10,7 @@ use Rattle.depth_frame.specs.declared.error.PgmKind.TheVariants.{Magic, Header, 
 use Rattle.depth_frame.specs.declared.header.Mark.{Mark}
 use Rattle.depth_frame.specs.declared.header.Number.{Number}
 use Rattle.depth_frame.specs.declared.header.Shape.{Shape}
-use Rattle.depth_frame.specs.Pictures.{Picture}
+use Rattle.depth_frame.specs.DepthMaps.{DepthMap}
 use Rattle.scan_io.specs.Reading.{byte_at, held, turned}
 use Rattle.scan_io.specs.Steps.{◌>>=◌}
 
@@ -161,7 +161,7 @@ raster_at most (suc k) n text = one_sample most n text >>= λ s. with_sample s.0
 -- ---- the file
 
 -- the file at the front of a text, its places counted from its first byte
-unfoldable pub pgm_at : List ℕ → Result (Picture × List ℕ) BadPgm
+unfoldable pub pgm_at : List ℕ → Result (DepthMap × List ℕ) BadPgm
 pgm_at text = do
   s ← header_at text
   r ← raster_at s.0.most (s.0.width * s.0.height) s.0.start s.1
@@ -172,13 +172,13 @@ abbrev pub placed : ℕ → BadPgm → BadPgm
 placed start why = record { at = held (start + why.at); kind = why.kind }
 
 -- the file at the front of a text that stands behind so many bytes, and what follows it
-unfoldable pub pgm_of : ℕ → List ℕ → Result (Picture × List ℕ) BadPgm
+unfoldable pub pgm_of : ℕ → List ℕ → Result (DepthMap × List ℕ) BadPgm
 pgm_of start text = turned (placed start) (pgm_at text)
 
 -- ---- written files
 
 -- sides that a file can have
-pub record HasSides (p : Picture) : Type 0 where
+pub record HasSides (p : DepthMap) : Type 0 where
   pub least_width : 1 ≤ p.width
   pub most_width : p.width ≤ 4096
   pub least_height : 1 ≤ p.height
@@ -189,9 +189,9 @@ abbrev pub header_bytes : ℕ → ℕ → List ℕ
 header_bytes width height = (((codes "P5\n" ++ decimal width) ++ codes " ") ++ decimal height) ++ codes "\n65535\n"
 
 -- the file of a depth map, two bytes for each sample, the most significant first
-abbrev pub pgm_text : Picture → List ℕ
+abbrev pub pgm_text : DepthMap → List ℕ
 pgm_text p = header_bytes p.width p.height ++ flat_map (to_be_bytes w16) p.raw
 
 -- behind any number of bytes, and whatever follows, the bytes are the file of that depth map
-abbrev pub IsReadAgain : Picture → List ℕ → Type 0
+abbrev pub IsReadAgain : DepthMap → List ℕ → Type 0
 IsReadAgain p bytes = (start : ℕ) (rest : List ℕ) → pgm_of start (bytes ++ rest) ≡ Ok (p, rest)

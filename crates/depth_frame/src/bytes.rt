@@ -1,5 +1,5 @@
 ghost use Rattle.std.specs.Prelude.{◌≡◌, ◌*◌, ◌++◌, ℕ, List, length, Ok, IfOk};
-ghost use Rattle.depth_frame.specs.Pictures.{picture_of};
+ghost use Rattle.depth_frame.specs.DepthMaps.{depth_map_of};
 ghost use Rattle.depth_frame.specs.Pgm.{HasSides, IsReadAgain, pgm_text};
 
 use crate::DepthFrame;
@@ -27,8 +27,8 @@ fn file_bytes(
     samples: &[u16],
 ) -> Result<Vec<u8>, AllocError>
     requires { length samples.now ≡ width * height }
-    ensures bytes { IfOk result (λ b. b.items ≡ pgm_text (picture_of width height samples.now)) }
-    ensures again { IfOk result (λ b. HasSides (picture_of width height samples.now) → IsReadAgain (picture_of width height samples.now) b.items) }
+    ensures bytes { IfOk result (λ b. b.items ≡ pgm_text (depth_map_of width height samples.now)) }
+    ensures again { IfOk result (λ b. HasSides (depth_map_of width height samples.now) → IsReadAgain (depth_map_of width height samples.now) b.items) }
 {
     let mut bytes = Vec::new(alloc);
     bytes.extend_from_slice(b"P5\n")?;

@@ -14,9 +14,9 @@ pub struct DepthFrame {
 
 impl Model for DepthFrame {
     ghost use Rattle.std.specs.Prelude.{◌≡◌, ◌*◌, vec_len};
-    ghost use Rattle.depth_frame.specs.Pictures.{Picture};
+    ghost use Rattle.depth_frame.specs.DepthMaps.{DepthMap};
 
-    ghost Value = { Picture };
+    ghost Value = { DepthMap };
 
     ghost view = { λ f. record { width = f.width; height = f.height; raw = f.raw.items } };
 
@@ -24,7 +24,7 @@ impl Model for DepthFrame {
 }
 
 impl DepthFrame {
-    ghost use Rattle.depth_frame.specs.Pictures.{sample_at};
+    ghost use Rattle.depth_frame.specs.DepthMaps.{sample_at};
 
     /// The depth map of `width` by `height` pixels with these samples, row by row.
     pub fn make(width: u32, height: u32, raw: Vec<u16>) -> DepthFrame

@@ -1,8 +1,8 @@
 ghost use Rattle.std.specs.Prelude.{◌≡◌, ◌<◌, ◌≤◌, ◌++◌, ℕ, List, Ok, IsErrOf};
 ghost use Rattle.scan_io.specs.Causes.{Rose};
 ghost use Rattle.depth_frame.specs.Pgm.{pgm_at, pgm_of};
-ghost use Rattle.depth_frame.specs.Files.{File, FoundFile, IsFile, file_bytes, file_picture};
-ghost use Rattle.depth_frame.specs.Pictures.{Picture};
+ghost use Rattle.depth_frame.specs.Files.{File, FoundFile, IsFile, file_bytes, file_depth_map};
+ghost use Rattle.depth_frame.specs.DepthMaps.{DepthMap};
 ghost use Rattle.depth_frame.specs.Errors.{pgm_errors};
 ghost use Rattle.scan_io.specs.Reading.{Reads, stream};
 ghost use Rattle.depth_frame.specs.declared.error.PgmError.TheVariants.{ReadFault};
@@ -60,6 +60,6 @@ fn read_file<S: Source>(
 /// A law: whatever is put together as a file is read as its depth map, whatever follows it, and nothing else is read.
 /// It does nothing when it is called.
 pub fn files_are_read()
-    ensures read { (start : ℕ) (f : File) (rest : List ℕ) → IsFile f → pgm_of start (file_bytes f ++ rest) ≡ Ok (file_picture f, rest) }
-    ensures found { (start : ℕ) (text : List ℕ) (p : Picture) (rest : List ℕ) → pgm_of start text ≡ Ok (p, rest) → FoundFile text p rest }
+    ensures read { (start : ℕ) (f : File) (rest : List ℕ) → IsFile f → pgm_of start (file_bytes f ++ rest) ≡ Ok (file_depth_map f, rest) }
+    ensures found { (start : ℕ) (text : List ℕ) (p : DepthMap) (rest : List ℕ) → pgm_of start text ≡ Ok (p, rest) → FoundFile text p rest }
 {}

@@ -1,20 +1,20 @@
 -- A view: a depth map, the camera that took it, and the pose that it was taken from.
 use Rattle.std.specs.Prelude.{◌≡◌, ℕ, ℤ, pos, Option}
 use Rattle.fixed_geom.specs.Poses.{Pose, IsPose}
-use Rattle.depth_frame.specs.Pictures.{Picture, sample_at}
+use Rattle.depth_frame.specs.DepthMaps.{DepthMap, sample_at}
 use Rattle.camera.specs.declared.camera.CameraFields.{CameraFields}
 use Rattle.camera.specs.Cameras.{IsCamera, depth_of}
 
 pub record View : Type 0 where
   pub camera : CameraFields
   pub pose : Pose
-  pub depths : Picture
+  pub depths : DepthMap
 
-abbrev pub view_of : CameraFields → Pose → Picture → View
+abbrev pub view_of : CameraFields → Pose → DepthMap → View
 view_of k m p = record { camera = k; pose = m; depths = p }
 
 -- a depth map has the sides of a camera's image
-pub record FitsImage (k : CameraFields) (p : Picture) : Type 0 where
+pub record FitsImage (k : CameraFields) (p : DepthMap) : Type 0 where
   pub width : pos p.width ≡ k.width
   pub height : pos p.height ≡ k.height
 

@@ -1,5 +1,5 @@
 ghost use Rattle.std.specs.Prelude.{◌≡◌, ◌<◌, pos, ◌≤ℤ◌, IfSome};
-ghost use Rattle.depth_frame.specs.Pictures.{sample_at};
+ghost use Rattle.depth_frame.specs.DepthMaps.{sample_at};
 ghost use Rattle.camera.specs.Cameras.{depth_of};
 
 use camera::Camera;

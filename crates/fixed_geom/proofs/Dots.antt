@@ -5,7 +5,7 @@ use Rattle.std.proofs.lemmas.Int.{ints}
 use Rattle.std.proofs.lemmas.Nat.{mul-le}
 use Rattle.fixed_geom.specs.declared.vector.Vec3.{Vec3}
 use Rattle.fixed_geom.specs.Vectors.{IsWithin, AreWithin, dot, minus}
-use Rattle.fixed_geom.specs.Poses.{Pose, HasPoseRange, form, unit, entry_bound, column_x, column_y, column_z}
+use Rattle.fixed_geom.specs.Poses.{Pose, HasPoseRange, cam_q30_axis, unit, entry_bound, column_x, column_y, column_z}
 use Rattle.fixed_geom.proofs.Whole.{mul_difference}
 use borrow.Author.Differences.{up, down}
 
@@ -39,8 +39,8 @@ three_differences : (a b c a' b' c' x y z : ℤ) → a -ℤ a' ≡ x → b -ℤ 
 three_differences a b c a' b' c' x y z e f g = omega (arith, ints)
 
 -- the forms of two points differ by the column times their difference
-pub form_difference : (c t p q : Vec3) → form c t p -ℤ form c t q ≡ dot c (minus p q)
-form_difference c t p q =
+pub cam_q30_axis_difference : (c t p q : Vec3) → cam_q30_axis c t p -ℤ cam_q30_axis c t q ≡ dot c (minus p q)
+cam_q30_axis_difference c t p q =
     three_differences (c.x *ℤ (p.x -ℤ t.x)) (c.y *ℤ (p.y -ℤ t.y)) (c.z *ℤ (p.z -ℤ t.z)) (c.x *ℤ (q.x -ℤ t.x)) (c.y *ℤ (q.y -ℤ t.y)) (c.z *ℤ (q.z -ℤ t.z)) (c.x *ℤ (p.x -ℤ q.x)) (c.y *ℤ (p.y -ℤ q.y)) (c.z *ℤ (p.z -ℤ q.z))
     (one_axis c.x p.x q.x t.x) (one_axis c.y p.y q.y t.y) (one_axis c.z p.z q.z t.z)
 

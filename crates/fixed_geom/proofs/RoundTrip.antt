@@ -5,7 +5,7 @@ use Rattle.std.proofs.lemmas.Int.{ints}
 use Rattle.fixed_geom.specs.Division.{IsFloor, floor_div}
 use Rattle.fixed_geom.specs.declared.vector.Vec3.{Vec3}
 use Rattle.fixed_geom.specs.Vectors.{IsWithin, AreWithin, vec, dot, minus}
-use Rattle.fixed_geom.specs.Poses.{Pose, form, unit, unit_squared, nearness, IsNear, cam_on, cam, world, entry_bound, IsPose, column_x, column_y, column_z}
+use Rattle.fixed_geom.specs.Poses.{Pose, cam_q30_axis, unit, unit_squared, nearness, IsNear, cam_axis, cam, world, entry_bound, IsPose, column_x, column_y, column_z}
 use Rattle.fixed_geom.proofs.Whole.{mul_sum, sum_mul, mul_turn, mul_group, mul_difference, difference_mul}
 use Rattle.fixed_geom.proofs.Floors.{floor_is}
 use Rattle.fixed_geom.proofs.Dots.{within_product, within_dot, unit_positive, columns_small}
@@ -93,8 +93,8 @@ abbrev raised : (t a b c v : Vec3) → Vec3
 raised t a b c v = vec (t.x +ℤ floor_div (dot (vec a.x b.x c.x) v) unit) (t.y +ℤ floor_div (dot (vec a.y b.y c.y) v) unit) (t.z +ℤ floor_div (dot (vec a.z b.z c.z) v) unit)
 
 -- the form of a world point, times the unit
-form_raised : (u t a b c v : Vec3) → unit *ℤ form u t (raised t a b c v) ≡ ((dot u a *ℤ v.x) +ℤ (dot u b *ℤ v.y) +ℤ (dot u c *ℤ v.z)) -ℤ left_of u a b c v
-form_raised u t a b c v =
+cam_q30_axis_raised : (u t a b c v : Vec3) → unit *ℤ cam_q30_axis u t (raised t a b c v) ≡ ((dot u a *ℤ v.x) +ℤ (dot u b *ℤ v.y) +ℤ (dot u c *ℤ v.z)) -ℤ left_of u a b c v
+cam_q30_axis_raised u t a b c v =
     let x = dot (vec a.x b.x c.x) v in
     let y = dot (vec a.y b.y c.y) v in
     let z = dot (vec a.z b.z c.z) v in
@@ -123,13 +123,13 @@ aimed n g p q e w = record { low = omega (arith, ints); high = omega (arith, int
 
 -- one axis: u is its column, w the coordinate, and the column's products with the columns a, b, c are near their targets
 on_axis : (u t a b c v : Vec3) (k l m w p q r : ℤ) → AreWithin entry_bound u → IsNear k (dot u a) → IsNear l (dot u b) → IsNear m (dot u c) → IsWithin p v.x → IsWithin q v.y → IsWithin r v.z
-    → (k *ℤ v.x) +ℤ (l *ℤ v.y) +ℤ (m *ℤ v.z) ≡ unit_squared *ℤ w → IsWithin (floor_div (p +ℤ q +ℤ r) (pos 1024) +ℤ pos 8) (cam_on u t (raised t a b c v) -ℤ w)
+    → (k *ℤ v.x) +ℤ (l *ℤ v.y) +ℤ (m *ℤ v.z) ≡ unit_squared *ℤ w → IsWithin (floor_div (p +ℤ q +ℤ r) (pos 1024) +ℤ pos 8) (cam_axis u t (raised t a b c v) -ℤ w)
 on_axis u t a b c v k l m w p q r small na nb nc x y z is =
     let g = (dot u a *ℤ v.x) +ℤ (dot u b *ℤ v.y) +ℤ (dot u c *ℤ v.z) in
-    let n = form u t (raised t a b c v) in
+    let n = cam_q30_axis u t (raised t a b c v) in
     let sums : IsWithin (nearness *ℤ (p +ℤ q +ℤ r)) (g -ℤ ((k *ℤ v.x) +ℤ (l *ℤ v.y) +ℤ (m *ℤ v.z))) =
     near_three nearness p q r (dot u a *ℤ v.x) (dot u b *ℤ v.y) (dot u c *ℤ v.z) (k *ℤ v.x) (l *ℤ v.y) (m *ℤ v.z) (near_part k (dot u a) v.x p na x) (near_part l (dot u b) v.y q nb y) (near_part m (dot u c) v.z r nc z) (mul_three nearness p q r) in
-    back n (cam_on u t (raised t a b c v)) g w (left_of u a b c v) (p +ℤ q +ℤ r) (floor_div (p +ℤ q +ℤ r) (pos 1024)) (form_raised u t a b c v) (floor_is n unit unit_positive)
+    back n (cam_axis u t (raised t a b c v)) g w (left_of u a b c v) (p +ℤ q +ℤ r) (floor_div (p +ℤ q +ℤ r) (pos 1024)) (cam_q30_axis_raised u t a b c v) (floor_is n unit unit_positive)
     (aimed (nearness *ℤ (p +ℤ q +ℤ r)) g ((k *ℤ v.x) +ℤ (l *ℤ v.y) +ℤ (m *ℤ v.z)) (unit_squared *ℤ w) is sums) (left_within u a b c v small) (floor_is (p +ℤ q +ℤ r) (pos 1024) (omega (arith, ints)))
 
 only_x : (x y z : ℤ) → (unit_squared *ℤ x) +ℤ (pos 0 *ℤ y) +ℤ (pos 0 *ℤ z) ≡ unit_squared *ℤ x

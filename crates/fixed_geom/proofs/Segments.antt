@@ -5,7 +5,7 @@ use Rattle.std.proofs.lemmas.Int.{ints}
 use Rattle.fixed_geom.specs.Division.{IsFloor}
 use Rattle.fixed_geom.specs.declared.vector.Vec3.{Vec3}
 use Rattle.fixed_geom.specs.Vectors.{IsWithin, AreWithin, vec, dot}
-use Rattle.fixed_geom.specs.Poses.{Pose, form, unit, cam_on, cam, entry_bound, HasPoseRange, column_x, column_y, column_z}
+use Rattle.fixed_geom.specs.Poses.{Pose, cam_q30_axis, unit, cam_axis, cam, entry_bound, HasPoseRange, column_x, column_y, column_z}
 use Rattle.fixed_geom.proofs.Whole.{mul_sum, mul_turn, mul_group, mul_order, mul_difference, difference_mul}
 use Rattle.fixed_geom.proofs.Floors.{floor_is, floor_above, floor_below, cancel}
 use Rattle.fixed_geom.proofs.Dots.{within_dot, unit_positive, columns_small}
@@ -32,8 +32,8 @@ off_from p q a e d t =
     plain qd qt qa pa pt pe aq pea qdt qpat qat pat pet a b c d e f g = omega (arith, ints)
 
 -- one axis: an entry r times the way to q d, from the ways to the ends
-axis_form : (r p q a e d t : ℤ) → q *ℤ (r *ℤ (d -ℤ t)) ≡ (q -ℤ p) *ℤ (r *ℤ (a -ℤ t)) +ℤ p *ℤ (r *ℤ (e -ℤ t)) +ℤ r *ℤ (q *ℤ d -ℤ along p q a e)
-axis_form r p q a e d t =
+axis_cam_q30 : (r p q a e d t : ℤ) → q *ℤ (r *ℤ (d -ℤ t)) ≡ (q -ℤ p) *ℤ (r *ℤ (a -ℤ t)) +ℤ p *ℤ (r *ℤ (e -ℤ t)) +ℤ r *ℤ (q *ℤ d -ℤ along p q a e)
+axis_cam_q30 r p q a e d t =
     plain (q *ℤ (r *ℤ (d -ℤ t))) ((q -ℤ p) *ℤ (r *ℤ (a -ℤ t))) (p *ℤ (r *ℤ (e -ℤ t))) (r *ℤ (q *ℤ d -ℤ along p q a e)) (r *ℤ (q *ℤ (d -ℤ t))) (r *ℤ ((q -ℤ p) *ℤ (a -ℤ t))) (r *ℤ (p *ℤ (e -ℤ t))) (r *ℤ ((q -ℤ p) *ℤ (a -ℤ t) +ℤ p *ℤ (e -ℤ t)))
     (mul_swap q r (d -ℤ t)) (mul_swap (q -ℤ p) r (a -ℤ t)) (mul_swap p r (e -ℤ t))
     (ap (λ (z : ℤ). r *ℤ z) (off_from p q a e d t) ∙ mul_difference r (q *ℤ (d -ℤ t)) ((q -ℤ p) *ℤ (a -ℤ t) +ℤ p *ℤ (e -ℤ t)))
@@ -43,9 +43,9 @@ axis_form r p q a e d t =
     plain x y z w x' y' z' s a b c d e = omega (arith, ints)
 
 -- the form of d, from the forms of the ends
-pub segment_form : (c t a e d : Vec3) (p q : ℤ) → q *ℤ form c t d ≡ (q -ℤ p) *ℤ form c t a +ℤ p *ℤ form c t e +ℤ dot c (off p q a e d)
-segment_form c t a e d p q =
-    plain (q *ℤ form c t d) ((q -ℤ p) *ℤ form c t a) (p *ℤ form c t e)
+pub segment_cam_q30_axis : (c t a e d : Vec3) (p q : ℤ) → q *ℤ cam_q30_axis c t d ≡ (q -ℤ p) *ℤ cam_q30_axis c t a +ℤ p *ℤ cam_q30_axis c t e +ℤ dot c (off p q a e d)
+segment_cam_q30_axis c t a e d p q =
+    plain (q *ℤ cam_q30_axis c t d) ((q -ℤ p) *ℤ cam_q30_axis c t a) (p *ℤ cam_q30_axis c t e)
     (q *ℤ (c.x *ℤ (d.x -ℤ t.x))) (q *ℤ (c.y *ℤ (d.y -ℤ t.y))) (q *ℤ (c.z *ℤ (d.z -ℤ t.z)))
     ((q -ℤ p) *ℤ (c.x *ℤ (a.x -ℤ t.x))) ((q -ℤ p) *ℤ (c.y *ℤ (a.y -ℤ t.y))) ((q -ℤ p) *ℤ (c.z *ℤ (a.z -ℤ t.z)))
     (p *ℤ (c.x *ℤ (e.x -ℤ t.x))) (p *ℤ (c.y *ℤ (e.y -ℤ t.y))) (p *ℤ (c.z *ℤ (e.z -ℤ t.z)))
@@ -53,7 +53,7 @@ segment_form c t a e d p q =
     (mul_three q (c.x *ℤ (d.x -ℤ t.x)) (c.y *ℤ (d.y -ℤ t.y)) (c.z *ℤ (d.z -ℤ t.z)))
     (mul_three (q -ℤ p) (c.x *ℤ (a.x -ℤ t.x)) (c.y *ℤ (a.y -ℤ t.y)) (c.z *ℤ (a.z -ℤ t.z)))
     (mul_three p (c.x *ℤ (e.x -ℤ t.x)) (c.y *ℤ (e.y -ℤ t.y)) (c.z *ℤ (e.z -ℤ t.z)))
-    (axis_form c.x p q a.x e.x d.x t.x) (axis_form c.y p q a.y e.y d.y t.y) (axis_form c.z p q a.z e.z d.z t.z)
+    (axis_cam_q30 c.x p q a.x e.x d.x t.x) (axis_cam_q30 c.y p q a.y e.y d.y t.y) (axis_cam_q30 c.z p q a.z e.z d.z t.z)
   where
     plain : (l m n x y z i j k f g h u v w : ℤ) → l ≡ x +ℤ y +ℤ z → m ≡ i +ℤ j +ℤ k → n ≡ f +ℤ g +ℤ h → x ≡ i +ℤ f +ℤ u → y ≡ j +ℤ g +ℤ v → z ≡ k +ℤ h +ℤ w → l ≡ m +ℤ n +ℤ (u +ℤ v +ℤ w)
     plain l m n x y z i j k f g h u v w a b c d e o = omega (arith, ints)
@@ -82,16 +82,16 @@ upper_sum p q a e u p0 pq la le = plain ((q -ℤ p) *ℤ u) (p *ℤ u) (q *ℤ u
     plain x y z a e h i j = omega (arith, ints)
 
 -- q times a bound of one unit times k
-pub form_low : (f a e o p q l k : ℤ) → pos 1 ≤ℤ q → pos 0 ≤ℤ p → p ≤ℤ q → q *ℤ f ≡ (q -ℤ p) *ℤ a +ℤ p *ℤ e +ℤ o → IsWithin (q *ℤ (unit *ℤ k)) o → (unit *ℤ l) ≤ℤ a → (unit *ℤ l) ≤ℤ e → (unit *ℤ (l -ℤ k)) ≤ℤ f
-form_low f a e o p q l k q1 p0 pq is w la le =
+pub cam_q30_axis_low : (f a e o p q l k : ℤ) → pos 1 ≤ℤ q → pos 0 ≤ℤ p → p ≤ℤ q → q *ℤ f ≡ (q -ℤ p) *ℤ a +ℤ p *ℤ e +ℤ o → IsWithin (q *ℤ (unit *ℤ k)) o → (unit *ℤ l) ≤ℤ a → (unit *ℤ l) ≤ℤ e → (unit *ℤ (l -ℤ k)) ≤ℤ f
+cam_q30_axis_low f a e o p q l k q1 p0 pq is w la le =
     cancel q (unit *ℤ (l -ℤ k)) f q1
     (plain (q *ℤ (unit *ℤ (l -ℤ k))) (q *ℤ (unit *ℤ l)) (q *ℤ (unit *ℤ k)) ((q -ℤ p) *ℤ a +ℤ p *ℤ e) o (q *ℤ f) q is w (lower_sum p q a e (unit *ℤ l) p0 pq la le) (ap (λ (z : ℤ). q *ℤ z) (mul_difference unit l k) ∙ mul_difference q (unit *ℤ l) (unit *ℤ k)) q1)
   where
     plain : (x ql qk s o f q : ℤ) → f ≡ s +ℤ o → IsWithin qk o → ql ≤ℤ s → x ≡ ql -ℤ qk → pos 1 ≤ℤ q → x <ℤ (f +ℤ q)
     plain x ql qk s o f q h w i j k = omega (arith, ints)
 
-pub form_high : (f a e o p q u k : ℤ) → pos 1 ≤ℤ q → pos 0 ≤ℤ p → p ≤ℤ q → q *ℤ f ≡ (q -ℤ p) *ℤ a +ℤ p *ℤ e +ℤ o → IsWithin (q *ℤ (unit *ℤ k)) o → a ≤ℤ u → e ≤ℤ u → f ≤ℤ (u +ℤ unit *ℤ k)
-form_high f a e o p q u k q1 p0 pq is w la le =
+pub cam_q30_axis_high : (f a e o p q u k : ℤ) → pos 1 ≤ℤ q → pos 0 ≤ℤ p → p ≤ℤ q → q *ℤ f ≡ (q -ℤ p) *ℤ a +ℤ p *ℤ e +ℤ o → IsWithin (q *ℤ (unit *ℤ k)) o → a ≤ℤ u → e ≤ℤ u → f ≤ℤ (u +ℤ unit *ℤ k)
+cam_q30_axis_high f a e o p q u k q1 p0 pq is w la le =
     cancel q f (u +ℤ unit *ℤ k) q1
     (plain (q *ℤ (u +ℤ unit *ℤ k)) (q *ℤ u) (q *ℤ (unit *ℤ k)) ((q -ℤ p) *ℤ a +ℤ p *ℤ e) o (q *ℤ f) q is w (upper_sum p q a e u p0 pq la le) (mul_sum q u (unit *ℤ k)) q1)
   where
@@ -104,19 +104,19 @@ pub record IsBetween (l u z : ℤ) : Type 0 where
   pub high : z ≤ℤ u
 
 -- the camera coordinate of d is within k of the bounds of the ends' coordinates
-pub segment_between : (c t a e d : Vec3) (p q l u k : ℤ) → pos 1 ≤ℤ q → pos 0 ≤ℤ p → p ≤ℤ q → IsWithin (q *ℤ (unit *ℤ k)) (dot c (off p q a e d)) → IsBetween l u (cam_on c t a) → IsBetween l u (cam_on c t e) → IsBetween (l -ℤ k) (u +ℤ k) (cam_on c t d)
+pub segment_between : (c t a e d : Vec3) (p q l u k : ℤ) → pos 1 ≤ℤ q → pos 0 ≤ℤ p → p ≤ℤ q → IsWithin (q *ℤ (unit *ℤ k)) (dot c (off p q a e d)) → IsBetween l u (cam_axis c t a) → IsBetween l u (cam_axis c t e) → IsBetween (l -ℤ k) (u +ℤ k) (cam_axis c t d)
 segment_between c t a e d p q l u k q1 p0 pq w ia ie =
-    let fa = form c t a in
-    let fe = form c t e in
-    let fd = form c t d in
+    let fa = cam_q30_axis c t a in
+    let fe = cam_q30_axis c t e in
+    let fd = cam_q30_axis c t d in
     let ca = floor_is fa unit unit_positive in
     let ce = floor_is fe unit unit_positive in
     let cd = floor_is fd unit unit_positive in
-    let low = form_low fd fa fe (dot c (off p q a e d)) p q l k q1 p0 pq (segment_form c t a e d p q) w (from_low fa (cam_on c t a) l ca ia.low) (from_low fe (cam_on c t e) l ce ie.low) in
-    let high = form_high fd fa fe (dot c (off p q a e d)) p q (unit *ℤ u +ℤ unit -ℤ pos 1) k q1 p0 pq (segment_form c t a e d p q) w (from_high fa (cam_on c t a) u ca ia.high) (from_high fe (cam_on c t e) u ce ie.high) in
+    let low = cam_q30_axis_low fd fa fe (dot c (off p q a e d)) p q l k q1 p0 pq (segment_cam_q30_axis c t a e d p q) w (from_low fa (cam_axis c t a) l ca ia.low) (from_low fe (cam_axis c t e) l ce ie.low) in
+    let high = cam_q30_axis_high fd fa fe (dot c (off p q a e d)) p q (unit *ℤ u +ℤ unit -ℤ pos 1) k q1 p0 pq (segment_cam_q30_axis c t a e d p q) w (from_high fa (cam_axis c t a) u ca ia.high) (from_high fe (cam_axis c t e) u ce ie.high) in
     record {
-      low = floor_above fd unit (cam_on c t d) (l -ℤ k) unit_positive cd low;
-      high = floor_below fd unit (cam_on c t d) (u +ℤ k) unit_positive cd (ended fd u k high);
+      low = floor_above fd unit (cam_axis c t d) (l -ℤ k) unit_positive cd low;
+      high = floor_below fd unit (cam_axis c t d) (u +ℤ k) unit_positive cd (ended fd u k high);
     }
   where
     from_low : (f c l : ℤ) → IsFloor f unit c → l ≤ℤ c → (unit *ℤ l) ≤ℤ f

@@ -5,7 +5,7 @@ use Rattle.std.proofs.lemmas.Int.{ints}
 use Rattle.fixed_geom.specs.Division.{IsFloor, floor_div}
 use Rattle.fixed_geom.specs.declared.vector.Vec3.{Vec3}
 use Rattle.fixed_geom.specs.Vectors.{IsWithin, AreWithin, cross, dot, minus}
-use Rattle.fixed_geom.specs.Poses.{Pose, form, unit, cam_on, cam, world, entry_bound, translation_bound, HasPoseRange, row_x, row_y, row_z, column_x, column_y, column_z}
+use Rattle.fixed_geom.specs.Poses.{Pose, cam_q30_axis, unit, cam_axis, cam, world, entry_bound, translation_bound, HasPoseRange, row_x, row_y, row_z, column_x, column_y, column_z}
 use Rattle.fixed_geom.proofs.Floors.{floor_is}
 use Rattle.fixed_geom.proofs.Dots.{within_dot, within_product, unit_positive, columns_small}
 use Rattle.fixed_geom.proofs.Worlds.{floor_within}
@@ -46,8 +46,8 @@ line_within line way small near = plain (dot line way) (within_dot entry_bound w
     plain x w = record { low = omega (arith, ints); high = omega (arith, ints) }
 
 -- so has the form
-pub form_within : (c t p : Vec3) → AreWithin entry_bound c → AreWithin translation_bound t → AreWithin wide p → IsWithin (pos 4722366482869645213696) (form c t p)
-form_within c t p small far near = line_within c (minus p t) small (way_within t p far near)
+pub cam_q30_axis_within : (c t p : Vec3) → AreWithin entry_bound c → AreWithin translation_bound t → AreWithin wide p → IsWithin (pos 4722366482869645213696) (cam_q30_axis c t p)
+cam_q30_axis_within c t p small far near = line_within c (minus p t) small (way_within t p far near)
 
 -- and its floor at most 42 bits
 pub whole_within : (x : ℤ) → IsWithin (pos 4722366482869645213696) x → IsWithin wider (floor_div x unit)
@@ -74,8 +74,8 @@ all_wide v w = record { x = axis v.x w.x; y = axis v.y w.y; z = axis v.z w.z }
     axis z w = record { low = omega (arith, ints); high = omega (arith, ints) }
 
 -- so have the coordinates of the camera point and of the world point
-pub cam_on_within : (c t p : Vec3) → AreWithin entry_bound c → AreWithin translation_bound t → AreWithin wide p → IsWithin wider (cam_on c t p)
-cam_on_within c t p small far near = less_wide (cam_on c t p) (along_within c (minus p t) small (way_within t p far near))
+pub cam_on_within : (c t p : Vec3) → AreWithin entry_bound c → AreWithin translation_bound t → AreWithin wide p → IsWithin wider (cam_axis c t p)
+cam_on_within c t p small far near = less_wide (cam_axis c t p) (along_within c (minus p t) small (way_within t p far near))
 
 pub cam_within : (m : Pose) (p : Vec3) → HasPoseRange m → AreWithin wide p → AreWithin wider (cam m p)
 cam_within m p r near =

@@ -4,19 +4,19 @@ use Rattle.std.specs.Prelude.{ℤ, pos, ◌-ℤ◌, ◌*ℤ◌, ◌≤ℤ◌}
 use Rattle.std.proofs.lemmas.Int.{ints}
 use Rattle.fixed_geom.specs.declared.vector.Vec3.{Vec3}
 use Rattle.fixed_geom.specs.Vectors.{IsWithin, AreWithin, dot, minus}
-use Rattle.fixed_geom.specs.Poses.{Pose, form, unit, cam_on, cam, entry_bound, HasPoseRange, column_x, column_y, column_z}
+use Rattle.fixed_geom.specs.Poses.{Pose, cam_q30_axis, unit, cam_axis, cam, entry_bound, HasPoseRange, column_x, column_y, column_z}
 use Rattle.fixed_geom.proofs.Floors.{floor_is, floor_near}
-use Rattle.fixed_geom.proofs.Dots.{within_dot, form_difference, unit_positive, columns_small}
+use Rattle.fixed_geom.proofs.Dots.{within_dot, cam_q30_axis_difference, unit_positive, columns_small}
 
 widened : (n k x y : ℤ) → y ≡ x → n ≤ℤ k → IsWithin n x → IsWithin k y
 widened n k x y e le w = record { low = omega (arith, ints); high = omega (arith, ints) }
 
 -- points within h have camera coordinates within k, where k is large enough for h
 pub step_within : (c t p q : Vec3) (h k : ℤ) → AreWithin entry_bound c → AreWithin h (minus p q) → (pos 3 *ℤ (entry_bound *ℤ h)) ≤ℤ (unit *ℤ k)
-    → IsWithin k (cam_on c t p -ℤ cam_on c t q)
+    → IsWithin k (cam_axis c t p -ℤ cam_axis c t q)
 step_within c t p q h k small near large =
-    floor_near (form c t p) (form c t q) unit k (cam_on c t p) (cam_on c t q) unit_positive (floor_is (form c t p) unit unit_positive) (floor_is (form c t q) unit unit_positive)
-    (widened (pos 3 *ℤ (entry_bound *ℤ h)) (unit *ℤ k) (dot c (minus p q)) (form c t p -ℤ form c t q) (form_difference c t p q) large (within_dot entry_bound h c (minus p q) small near))
+    floor_near (cam_q30_axis c t p) (cam_q30_axis c t q) unit k (cam_axis c t p) (cam_axis c t q) unit_positive (floor_is (cam_q30_axis c t p) unit unit_positive) (floor_is (cam_q30_axis c t q) unit unit_positive)
+    (widened (pos 3 *ℤ (entry_bound *ℤ h)) (unit *ℤ k) (dot c (minus p q)) (cam_q30_axis c t p -ℤ cam_q30_axis c t q) (cam_q30_axis_difference c t p q) large (within_dot entry_bound h c (minus p q) small near))
 
 size_four : (s : ℤ) → pos 0 ≤ℤ s → (pos 3 *ℤ (entry_bound *ℤ (pos 4 *ℤ s))) ≤ℤ (unit *ℤ (pos 13 *ℤ s))
 size_four s h = omega (arith, ints)

@@ -7,7 +7,7 @@ use mir.Syntax.{w64, w128}
 use Rattle.fixed_geom.specs.declared.vector.Vec3.{Vec3}
 use Rattle.fixed_geom.specs.Division.{floor_div}
 use Rattle.fixed_geom.specs.Vectors.{IsWithin, vec, dot, minus}
-use Rattle.fixed_geom.specs.Poses.{entry_bound, translation_bound, unit, cam_on, form}
+use Rattle.fixed_geom.specs.Poses.{entry_bound, translation_bound, unit, cam_axis, cam_q30_axis}
 use Rattle.fixed_geom.proofs.Sizes.{product_within}
 
 -- numbers within 2^62 stay themselves in 64 bits
@@ -73,19 +73,19 @@ pub way_is : (r p t : ℤ) → IsWithin (pos 1099511627776) p → IsWithin trans
 way_is r p t v w e = omega (arith, ints)
 
 -- a number within 2^72 stays itself in 128 bits
-pub form_same : (z : ℤ) → IsWithin (pos 4722366482869645213696) z → to_z w128 (of_z w128 z) ≡ z
-form_same z w = omega (arith, ints)
+pub cam_q30_axis_same : (z : ℤ) → IsWithin (pos 4722366482869645213696) z → to_z w128 (of_z w128 z) ≡ z
+cam_q30_axis_same z w = omega (arith, ints)
 
 -- the coordinate of a camera point, by its form, read as 64 bits
-pub cam_is : (r f : ℤ) (c t p : Vec3) → SFits w64 r → f ≡ form c t p → IsWithin (pos 4722366482869645213696) (form c t p) → r ≡ floor_div (to_z w128 (of_z w128 f)) unit → to_z w64 (of_z w64 r) ≡ cam_on c t p
-cam_is r f c t p fit e w is = to_z-of_z w64 r fit ∙ is ∙ rw (e, form_same (form c t p) w) refl
+pub cam_is : (r f : ℤ) (c t p : Vec3) → SFits w64 r → f ≡ cam_q30_axis c t p → IsWithin (pos 4722366482869645213696) (cam_q30_axis c t p) → r ≡ floor_div (to_z w128 (of_z w128 f)) unit → to_z w64 (of_z w64 r) ≡ cam_axis c t p
+cam_is r f c t p fit e w is = to_z-of_z w64 r fit ∙ is ∙ rw (e, cam_q30_axis_same (cam_q30_axis c t p) w) refl
 
 -- the coordinate of a world point, read as 64 bits
 pub world_is : (r t w d : ℤ) → IsWithin translation_bound t → IsWithin (pos 4397946511104) w → w ≡ d → r ≡ to_z w64 (of_z w64 t) +ℤ to_z w64 (of_z w64 w) → to_z w64 (of_z w64 r) ≡ t +ℤ d
 world_is r t w d u v e f = omega (arith, ints)
 
 -- the form of a point on one axis, by the entries of a column, read as 128 bits
-pub form_is : (r a b d : ℤ) (way t p : Vec3) → IsWithin entry_bound a → IsWithin entry_bound b → IsWithin entry_bound d → way ≡ minus p t
+pub cam_q30_axis_is : (r a b d : ℤ) (way t p : Vec3) → IsWithin entry_bound a → IsWithin entry_bound b → IsWithin entry_bound d → way ≡ minus p t
     → r ≡ dot (vec (to_z w64 (of_z w64 a)) (to_z w64 (of_z w64 b)) (to_z w64 (of_z w64 d))) way → IsWithin (pos 4722366482869645213696) r
-    → to_z w128 (of_z w128 r) ≡ form (vec a b d) t p
-form_is r a b d way t p u v w e f n = form_same r n ∙ f ∙ rw (entry_same a u, entry_same b v, entry_same d w, e) refl
+    → to_z w128 (of_z w128 r) ≡ cam_q30_axis (vec a b d) t p
+cam_q30_axis_is r a b d way t p u v w e f n = cam_q30_axis_same r n ∙ f ∙ rw (entry_same a u, entry_same b v, entry_same d w, e) refl

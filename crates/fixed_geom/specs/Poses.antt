@@ -46,16 +46,16 @@ abbrev pub unit : ℤ
 unit = pos 1073741824
 
 -- the form of a point on one axis: a column times the way from the translation
-abbrev pub form : (column t p : Vec3) → ℤ
-form c t p = dot c (minus p t)
+abbrev pub cam_q30_axis : (column t p : Vec3) → ℤ
+cam_q30_axis c t p = dot c (minus p t)
 
 -- a camera coordinate of a world point
-abbrev pub cam_on : (column t p : Vec3) → ℤ
-cam_on c t p = floor_div (form c t p) unit
+abbrev pub cam_axis : (column t p : Vec3) → ℤ
+cam_axis c t p = floor_div (cam_q30_axis c t p) unit
 
 -- the camera point of a world point
 abbrev pub cam : Pose → Vec3 → Vec3
-cam m p = vec (cam_on (column_x m) m.t p) (cam_on (column_y m) m.t p) (cam_on (column_z m) m.t p)
+cam m p = vec (cam_axis (column_x m) m.t p) (cam_axis (column_y m) m.t p) (cam_axis (column_z m) m.t p)
 
 -- the world point of a camera point
 abbrev pub world : Pose → Vec3 → Vec3

@@ -4,7 +4,7 @@
 mod bounds;
 pub mod decimal;
 pub mod division;
-pub mod forms;
+pub mod cam_q30;
 pub mod laws;
 mod near;
 pub mod pose;
@@ -16,6 +16,6 @@ pub mod vector;
 
 pub use decimal::{BadNumber, read_decimal};
 pub use division::{floor_div, round_div};
-pub use forms::Forms;
+pub use cam_q30::CamQ30;
 pub use pose::{BadPose, Pose, PoseRows};
 pub use vector::Vec3;

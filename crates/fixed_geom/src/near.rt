@@ -7,7 +7,7 @@ ghost use Rattle.fixed_geom.specs.Vectors.{AreWithin, IsWithin, dot as dot_of};
 use crate::vector::Vec3;
 
 /// One coordinate of the world point, by the translation's and by the row of the rotation.
-pub(crate) fn world_on(t: i64, row: Vec3, c: Vec3) -> i64
+pub(crate) fn world_axis(t: i64, row: Vec3, c: Vec3) -> i64
     requires t { IsWithin translation_bound t }
     requires row { AreWithin entry_bound row }
     requires c { AreWithin (pos 17000000) c }

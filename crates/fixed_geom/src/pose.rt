@@ -1,12 +1,12 @@
 ghost use Rattle.std.specs.Prelude.{◌≡◌, ◌^◌, ◌+◌, ◌≤◌, pos, IfOk, ◌↔◌};
 ghost use Rattle.fixed_geom.specs.PoseTest.{accepted, entry, has_pose_range as has_pose_range_of, is_near_rotation as is_near_rotation_of, pose_of, rows_of};
-ghost use Rattle.fixed_geom.specs.Poses.{HasPoseRange, IsNearRotation, IsPose, cam as cam_of, column_x, column_y, column_z, entry_bound, form, of_rows, world as world_of};
+ghost use Rattle.fixed_geom.specs.Poses.{HasPoseRange, IsNearRotation, IsPose, cam as cam_of, column_x, column_y, column_z, entry_bound, cam_q30_axis, of_rows, world as world_of};
 ghost use Rattle.fixed_geom.specs.Vectors.{AreWithin, vec};
 ghost use Rattle.fixed_geom.specs.declared.vector.Vec3.{Vec3};
 
 use crate::bounds::are_within;
-use crate::forms::Forms;
-use crate::near::world_on;
+use crate::cam_q30::CamQ30;
+use crate::near::world_axis;
 use crate::products::{
     along, are_nearly_orthogonal, is_nearly_unit, is_right_handed, moved, reach, way, whole,
 };
@@ -91,16 +91,16 @@ impl Pose {
 
     /// The forms of a world point within `2^40` micrometres on each axis: the transposed matrix times
     /// the way from the translation.
-    pub fn forms(&self, p: Vec3) -> Forms
+    pub fn cam_q30(&self, p: Vec3) -> CamQ30
         requires p { AreWithin (pos (2 ^ 40)) p }
-        ensures x { result.x ≡ form (column_x self.now) self.now.t p }
-        ensures y { result.y ≡ form (column_y self.now) self.now.t p }
-        ensures z { result.z ≡ form (column_z self.now) self.now.t p }
+        ensures x { result.x ≡ cam_q30_axis (column_x self.now) self.now.t p }
+        ensures y { result.y ≡ cam_q30_axis (column_y self.now) self.now.t p }
+        ensures z { result.z ≡ cam_q30_axis (column_z self.now) self.now.t p }
         ensures pose { IsPose self.now }
     {
         let (x, y, z) = (self.x, self.y, self.z);
         let way = way(p, self.t);
-        Forms {
+        CamQ30 {
             x: reach(
                 Vec3 {
                     x: x.x,
@@ -136,11 +136,11 @@ impl Pose {
         ensures bound { AreWithin (pos (2 ^ 42)) result }
         ensures pose { IsPose self.now }
     {
-        let forms = self.forms(p);
+        let cam_q30 = self.cam_q30(p);
         Vec3 {
-            x: whole(forms.x),
-            y: whole(forms.y),
-            z: whole(forms.z),
+            x: whole(cam_q30.x),
+            y: whole(cam_q30.y),
+            z: whole(cam_q30.z),
         }
     }
 
@@ -168,9 +168,9 @@ impl Pose {
         ensures pose { IsPose self.now }
     {
         Vec3 {
-            x: world_on(self.t.x, self.x, c),
-            y: world_on(self.t.y, self.y, c),
-            z: world_on(self.t.z, self.z, c),
+            x: world_axis(self.t.x, self.x, c),
+            y: world_axis(self.t.y, self.y, c),
+            z: world_axis(self.t.z, self.z, c),
         }
     }
 }

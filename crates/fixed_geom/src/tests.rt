@@ -80,7 +80,7 @@ fn points_go_to_the_camera_and_back(rt: HostRuntime) -> Result<(), BadPose> {
 }
 
 #[test]
-fn near_points_and_forms(rt: HostRuntime) -> Result<(), BadPose> {
+fn near_points_and_cam_q30(rt: HostRuntime) -> Result<(), BadPose> {
     let t = Vec3 {
         x: 10,
         y: 20,
@@ -99,12 +99,12 @@ fn near_points_and_forms(rt: HostRuntime) -> Result<(), BadPose> {
     let pose = Pose::accept(&PoseRows { r: IDENTITY, t })?;
     assert_eq!(rt; pose.near_world(point), moved);
     // The way from the translation is (1, 2, 3).
-    let forms = Forms {
+    let cam_q30 = CamQ30 {
         x: 1 << 30,
         y: 2 << 30,
         z: 3 << 30,
     };
-    assert_eq!(rt; pose.forms(point), forms);
+    assert_eq!(rt; pose.cam_q30(point), cam_q30);
 
     // A step along the camera's x goes 0.9998 and 0.019999 in the world; one along the world's x
     // goes 0.9998 and -0.019999 in the camera.
@@ -112,12 +112,12 @@ fn near_points_and_forms(rt: HostRuntime) -> Result<(), BadPose> {
     let floors = Vec3 { x: -1, y: -1, z: 0 };
     assert_eq!(rt; pose.near_world(Vec3 { x: 1, y: 0, z: 0 }), ORIGIN);
     assert_eq!(rt; pose.near_world(Vec3 { x: -1, y: 0, z: 0 }), floors);
-    let forms = Forms {
+    let cam_q30 = CamQ30 {
         x: 1073527076,
         y: -21473763,
         z: 0,
     };
-    assert_eq!(rt; pose.forms(Vec3 { x: 1, y: 0, z: 0 }), forms);
+    assert_eq!(rt; pose.cam_q30(Vec3 { x: 1, y: 0, z: 0 }), cam_q30);
     Ok(())
 }
 

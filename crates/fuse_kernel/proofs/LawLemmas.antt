@@ -16,7 +16,7 @@ use Rattle.camera.proofs.Active.{met_is_active, inactive_meets_none}
 use Rattle.camera.proofs.Inside.{met_by_pixel}
 use Rattle.camera.proofs.RangeLemmas.{at_most, between}
 use Rattle.camera.proofs.Seen.{unseen_meets_none}
-use Rattle.depth_frame.specs.Pictures.{sample_at}
+use Rattle.depth_frame.specs.DepthMaps.{sample_at}
 use Rattle.depth_view.specs.Views.{View, IsView, depth_at}
 use Rattle.fuse_kernel.specs.Updates.{Meets, averaged, depth_behind, seen, update, updated}
 use Rattle.fuse_kernel.proofs.UpdateLemmas.{le_tells}

@@ -7,23 +7,23 @@ use Rattle.std.proofs.lemmas.Bool.{and_parts}
 use Rattle.fixed_geom.specs.declared.vector.Vec3.{Vec3}
 use Rattle.fixed_geom.specs.Division.{IsFloor, floor_div}
 use Rattle.fixed_geom.specs.Vectors.{IsWithin, AreWithin, dot, minus}
-use Rattle.fixed_geom.specs.Poses.{Pose, IsPose, cam, cam_on, form, unit, column_x, column_y, column_z}
-use Rattle.fixed_geom.proofs.Dots.{form_difference, within_product, unit_positive}
+use Rattle.fixed_geom.specs.Poses.{Pose, IsPose, cam, cam_axis, cam_q30_axis, unit, column_x, column_y, column_z}
+use Rattle.fixed_geom.proofs.Dots.{cam_q30_axis_difference, within_product, unit_positive}
 use Rattle.fixed_geom.proofs.Floors.{floor_is, floor_above}
 use Rattle.fixed_geom.proofs.Whole.{difference_mul, mul_group, mul_neg, mul_turn, sum_mul}
 use Rattle.voxel_block.specs.declared.key.BlockKey.{BlockKey}
 use Rattle.camera.specs.declared.camera.CameraFields.{CameraFields}
-use Rattle.camera.specs.Cameras.{HasRanges, HasReach, IsCamera, deepest, half, left, reach_on, right}
+use Rattle.camera.specs.Cameras.{HasRanges, HasReach, IsCamera, max_depth, half, left, reach_axis, right}
 use Rattle.camera.specs.Grid.{centre_of, point_of}
-use Rattle.camera.specs.Visibility.{is_at_depth, is_between_sides, is_in_view, looks_round, may_be_seen, may_be_seen_at, side_depth}
+use Rattle.camera.specs.Visibility.{is_at_depth, is_between_sides, is_in_view, margin, may_be_seen, may_be_seen_at, side_depth}
 use Rattle.camera.proofs.Offsets.{voxel_step}
 use Rattle.camera.proofs.RangeLemmas.{is_at_most}
 use Rattle.camera.proofs.RayLemmas.{at_depth, half_covers}
 use Rattle.camera.proofs.Readings.{read}
-use Rattle.fuse_kernel.specs.declared.forms.Forms.{Forms}
+use Rattle.fuse_kernel.specs.declared.near_cam_q30.NearCamQ30.{NearCamQ30}
 use Rattle.fuse_kernel.specs.declared.walk.Walk.{Walk}
 use Rattle.fuse_kernel.proofs.Machine.{plain_read}
-use Rattle.fuse_kernel.specs.Walks.{FormsWithin, IsShort, along, forms_at, forms_of, place_of, point_by, stepped, walk_of}
+use Rattle.fuse_kernel.specs.Walks.{NearCamQ30Within, IsShort, along, cam_q30_at, cam_q30_of, place_of, point_by, stepped, walk_of}
 
 -- ---- what a walk tells
 
@@ -42,19 +42,19 @@ added : (p q d a b c a' b' c' : ℤ) → p -ℤ q ≡ d → d ≡ a +ℤ b +ℤ 
 added p q d a b c a' b' c' e f g h i = omega (arith, ints)
 
 -- the form of a place, by the corner's
-form_along : (c t : Vec3) (s : ℤ) (b : BlockKey) (x y z : ℤ) → along (form c t (place_of s b (pos 0) (pos 0) (pos 0))) (s *ℤ c.x) (s *ℤ c.y) (s *ℤ c.z) x y z ≡ form c t (place_of s b x y z)
-form_along c t s b x y z =
+cam_q30_axis_along : (c t : Vec3) (s : ℤ) (b : BlockKey) (x y z : ℤ) → along (cam_q30_axis c t (place_of s b (pos 0) (pos 0) (pos 0))) (s *ℤ c.x) (s *ℤ c.y) (s *ℤ c.z) x y z ≡ cam_q30_axis c t (place_of s b x y z)
+cam_q30_axis_along c t s b x y z =
     let p = place_of s b x y z in
     let q = place_of s b (pos 0) (pos 0) (pos 0) in
-    added (form c t p) (form c t q) (dot c (minus p q)) (c.x *ℤ (p.x -ℤ q.x)) (c.y *ℤ (p.y -ℤ q.y)) (c.z *ℤ (p.z -ℤ q.z)) (x *ℤ (s *ℤ c.x)) (y *ℤ (s *ℤ c.y)) (z *ℤ (s *ℤ c.z))
-    (form_difference c t p q) refl (one_axis c.x s b.x x) (one_axis c.y s b.y y) (one_axis c.z s b.z z)
+    added (cam_q30_axis c t p) (cam_q30_axis c t q) (dot c (minus p q)) (c.x *ℤ (p.x -ℤ q.x)) (c.y *ℤ (p.y -ℤ q.y)) (c.z *ℤ (p.z -ℤ q.z)) (x *ℤ (s *ℤ c.x)) (y *ℤ (s *ℤ c.y)) (z *ℤ (s *ℤ c.z))
+    (cam_q30_axis_difference c t p q) refl (one_axis c.x s b.x x) (one_axis c.y s b.y y) (one_axis c.z s b.z z)
 
 -- the forms of a place, by a walk
-pub forms_along : (s : ℤ) (m : Pose) (b : BlockKey) (x y z : ℤ) → forms_at (walk_of s m b) x y z ≡ forms_of m (place_of s b x y z)
-forms_along s m b x y z =
-    let e = form_along (column_x m) m.t s b x y z in
-    let f = form_along (column_y m) m.t s b x y z in
-    let g = form_along (column_z m) m.t s b x y z in
+pub cam_q30_along : (s : ℤ) (m : Pose) (b : BlockKey) (x y z : ℤ) → cam_q30_at (walk_of s m b) x y z ≡ cam_q30_of m (place_of s b x y z)
+cam_q30_along s m b x y z =
+    let e = cam_q30_axis_along (column_x m) m.t s b x y z in
+    let f = cam_q30_axis_along (column_y m) m.t s b x y z in
+    let g = cam_q30_axis_along (column_z m) m.t s b x y z in
     λ k. record { x = e k; y = f k; z = g k }
 
 -- the place of a voxel, by its row
@@ -66,10 +66,10 @@ place_is s b row x h =
     λ k. place_of s b (pos (e k)) (pos (f k)) (pos (g k))
 
 -- the camera point of a voxel, by a walk
-pub point_along : (s : ℤ) (m : Pose) (b : BlockKey) (row x : ℕ) (a : Walk) (f : Forms) (p : Vec3) → x < 8 → a ≡ walk_of s m b → f ≡ forms_at a (pos x) (pos (row % 8)) (pos (row / 8)) → p ≡ point_by f → p ≡ cam m (point_of s b (8 * row + x))
-point_along s m b row x a f p h walk forms point =
+pub point_along : (s : ℤ) (m : Pose) (b : BlockKey) (row x : ℕ) (a : Walk) (f : NearCamQ30) (p : Vec3) → x < 8 → a ≡ walk_of s m b → f ≡ cam_q30_at a (pos x) (pos (row % 8)) (pos (row / 8)) → p ≡ point_by f → p ≡ cam m (point_of s b (8 * row + x))
+point_along s m b row x a f p h walk near_cam_q30 point =
     point
-    ∙ ap point_by (forms ∙ ap (λ (a : Walk). forms_at a (pos x) (pos (row % 8)) (pos (row / 8))) walk ∙ forms_along s m b (pos x) (pos (row % 8)) (pos (row / 8)))
+    ∙ ap point_by (near_cam_q30 ∙ ap (λ (a : Walk). cam_q30_at a (pos x) (pos (row % 8)) (pos (row / 8))) walk ∙ cam_q30_along s m b (pos x) (pos (row % 8)) (pos (row / 8)))
     ∙ ap (cam m) (place_is s b row x h)
 
 -- one more step along x
@@ -79,14 +79,14 @@ along_more k a b c x y z = sum (x *ℤ a) ((x +ℤ pos 1) *ℤ a) (y *ℤ b) (z 
     sum : (xa xa' yb zc k a : ℤ) → xa' ≡ xa +ℤ pos 1 *ℤ a → k +ℤ xa +ℤ yb +ℤ zc +ℤ a ≡ k +ℤ xa' +ℤ yb +ℤ zc
     sum xa xa' yb zc k a e = omega (arith, ints)
 
-pub forms_more : (a : Walk) (f g : Forms) (x : ℕ) (y z : ℤ) → f ≡ forms_at a (pos x) y z → g ≡ stepped f a.x → g ≡ forms_at a (pos (x + 1)) y z
-forms_more a f g x y z now next =
+pub cam_q30_more : (a : Walk) (f g : NearCamQ30) (x : ℕ) (y z : ℤ) → f ≡ cam_q30_at a (pos x) y z → g ≡ stepped f a.x → g ≡ cam_q30_at a (pos (x + 1)) y z
+cam_q30_more a f g x y z now next =
     let next_place : pos x +ℤ pos 1 ≡ pos (x + 1) = omega (arith, ints) in
     let e = along_more a.corner.x a.x.x a.y.x a.z.x (pos x) y z in
     let h = along_more a.corner.y a.x.y a.y.y a.z.y (pos x) y z in
     let i = along_more a.corner.z a.x.z a.y.z a.z.z (pos x) y z in
-    let more : stepped (forms_at a (pos x) y z) a.x ≡ forms_at a (pos x +ℤ pos 1) y z = λ k. record { x = e k; y = h k; z = i k } in
-    next ∙ ap (λ (f : Forms). stepped f a.x) now ∙ more ∙ ap (λ (x : ℤ). forms_at a x y z) next_place
+    let more : stepped (cam_q30_at a (pos x) y z) a.x ≡ cam_q30_at a (pos x +ℤ pos 1) y z = λ k. record { x = e k; y = h k; z = i k } in
+    next ∙ ap (λ (f : NearCamQ30). stepped f a.x) now ∙ more ∙ ap (λ (x : ℤ). cam_q30_at a x y z) next_place
 
 -- ---- how large it may be
 
@@ -105,13 +105,13 @@ pub eight : (n : ℕ) → n < 9 → IsWithin (pos 8) (pos n)
 eight n h = record { low = omega (arith, ints); high = omega (arith, ints) }
 
 -- the forms of a row's places are within 2^56
-pub forms_within : (a : Walk) (row x : ℕ) (f : Forms) → IsShort a → row < 64 → x < 9 → f ≡ forms_at a (pos x) (pos (row % 8)) (pos (row / 8)) → FormsWithin (pos 72057594037927936) f
-forms_within a row x f short rows below is =
+pub cam_q30_within : (a : Walk) (row x : ℕ) (f : NearCamQ30) → IsShort a → row < 64 → x < 9 → f ≡ cam_q30_at a (pos x) (pos (row % 8)) (pos (row / 8)) → NearCamQ30Within (pos 72057594037927936) f
+cam_q30_within a row x f short rows below is =
     let p = eight x below in
     let q = eight (row % 8) (omega arith) in
     let r = eight (row / 8) (omega arith) in
     let c = short.corner in
-    subst (FormsWithin (pos 72057594037927936)) (sym is)
+    subst (NearCamQ30Within (pos 72057594037927936)) (sym is)
     (record {
       x = along_within a.corner.x a.x.x a.y.x a.z.x (pos x) (pos (row % 8)) (pos (row / 8)) c.x short.x.x short.y.x short.z.x p q r;
       y = along_within a.corner.y a.x.y a.y.y a.z.y (pos x) (pos (row % 8)) (pos (row / 8)) c.y short.x.y short.y.y short.z.y p q r;
@@ -144,7 +144,7 @@ row_read r k a b c y z n p e wk wb wc ey ez hn hp =
 -- ---- the corner of a block that may be seen
 
 -- what the test of the sides tells, on one axis
-sides_tell : (f c w n x h top : ℤ) → pos 1 ≤ℤ f → pos 0 ≤ℤ c → pos 0 ≤ℤ h → h ≤ℤ top → IsTrue (is_between_sides f c w n x h) → IsWithin (reach_on top f w c +ℤ n) x
+sides_tell : (f c w n x h top : ℤ) → pos 1 ≤ℤ f → pos 0 ≤ℤ c → pos 0 ≤ℤ h → h ≤ℤ top → IsTrue (is_between_sides f c w n x h) → IsWithin (reach_axis top f w c +ℤ n) x
 sides_tell f c w n x h top f1 c0 h0 le t =
     let m = half w c in
     let r = int_max (pos 0) (right w c) in
@@ -185,24 +185,24 @@ bounded_depth far mu s z a b low high h k = record { low = omega (arith, ints); 
 -- the centre of a block that may be seen is near the camera
 centre_near : (k : CameraFields) (c : Vec3) → HasRanges k → HasReach k → IsTrue (may_be_seen_at k c) → AreWithin (pos 18400000) c
 centre_near k c r reach t =
-    let n = looks_round k in
+    let n = margin k in
     let s0 : pos 0 ≤ℤ k.voxel = omega (arith, ints, r.voxel) in
-    let top0 : pos 0 ≤ℤ deepest k = omega (arith, ints, r.near, r.far, r.voxel, r.mu) in
+    let top0 : pos 0 ≤ℤ max_depth k = omega (arith, ints, r.near, r.far, r.voxel, r.mu) in
     let parts = and_parts (is_at_depth k c.z) (is_in_view k c) t in
     let depth = and_parts _ _ parts.0 in
     let view = and_parts (is_between_sides k.fx k.cx k.width n c.x (side_depth k c.z)) (is_between_sides k.fy k.cy k.height n c.y (side_depth k c.z)) parts.1 in
     let front = is_at_most (pos 1) (c.z +ℤ n) depth.0 in
-    let back = is_at_most (c.z -ℤ n) (deepest k) depth.1 in
-    let h = shallow c.z n (deepest k) front top0 in
+    let back = is_at_most (c.z -ℤ n) (max_depth k) depth.1 in
+    let h = shallow c.z n (max_depth k) front top0 in
     record {
-      x = bounded _ k.voxel c.x reach.x s0 r.voxel_high (sides_tell k.fx k.cx k.width n c.x (side_depth k c.z) (deepest k) r.fx r.cx h.0 h.1 view.0);
-      y = bounded _ k.voxel c.y reach.y s0 r.voxel_high (sides_tell k.fy k.cy k.height n c.y (side_depth k c.z) (deepest k) r.fy r.cy h.0 h.1 view.1);
+      x = bounded _ k.voxel c.x reach.x s0 r.voxel_high (sides_tell k.fx k.cx k.width n c.x (side_depth k c.z) (max_depth k) r.fx r.cx h.0 h.1 view.0);
+      y = bounded _ k.voxel c.y reach.y s0 r.voxel_high (sides_tell k.fy k.cy k.height n c.y (side_depth k c.z) (max_depth k) r.fy r.cy h.0 h.1 view.1);
       z = bounded_depth k.far k.mu k.voxel c.z r.far_high r.mu_high s0 r.voxel_high front back;
     }
 
 -- a form is bounded by its floor
-form_within : (a q near s : ℤ) → IsFloor a unit q → IsWithin (pos 18400000) near → pos 0 ≤ℤ s → s ≤ℤ pos 100000 → IsWithin (pos 13 *ℤ s) (q -ℤ near) → IsWithin (pos 36028797018963968) a
-form_within a q near s is w low high v =
+cam_q30_axis_within : (a q near s : ℤ) → IsFloor a unit q → IsWithin (pos 18400000) near → pos 0 ≤ℤ s → s ≤ℤ pos 100000 → IsWithin (pos 13 *ℤ s) (q -ℤ near) → IsWithin (pos 36028797018963968) a
+cam_q30_axis_within a q near s is w low high v =
     let p : IsWithin (pos 19700000) q = moved q near s w low high v in
     record { low = omega (arith, ints, is.below, p.low); high = omega (arith, ints, is.above, p.high) }
   where
@@ -210,8 +210,8 @@ form_within a q near s is w low high v =
     moved q near s w low high v = record { low = omega (arith, ints); high = omega (arith, ints) }
 
 -- the forms of a voxel of a block that may be seen are within 2^55
-pub seen_forms : (k : CameraFields) (m : Pose) (b : BlockKey) (i : ℕ) → IsCamera k → IsPose m → i < 512 → IsTrue (may_be_seen k m b) → FormsWithin (pos 36028797018963968) (forms_of m (point_of k.voxel b i))
-seen_forms k m b i o w below seen =
+pub seen_cam_q30 : (k : CameraFields) (m : Pose) (b : BlockKey) (i : ℕ) → IsCamera k → IsPose m → i < 512 → IsTrue (may_be_seen k m b) → NearCamQ30Within (pos 36028797018963968) (cam_q30_of m (point_of k.voxel b i))
+seen_cam_q30 k m b i o w below seen =
     let p = point_of k.voxel b i in
     let c = cam m (centre_of k.voxel b) in
     let r = o.ranges in
@@ -219,7 +219,7 @@ seen_forms k m b i o w below seen =
     let near = centre_near k c r o.reach seen in
     let step = voxel_step m k.voxel b i w.range s0 below in
     record {
-      x = form_within (form (column_x m) m.t p) (cam_on (column_x m) m.t p) c.x k.voxel (floor_is (form (column_x m) m.t p) unit unit_positive) near.x s0 r.voxel_high step.x;
-      y = form_within (form (column_y m) m.t p) (cam_on (column_y m) m.t p) c.y k.voxel (floor_is (form (column_y m) m.t p) unit unit_positive) near.y s0 r.voxel_high step.y;
-      z = form_within (form (column_z m) m.t p) (cam_on (column_z m) m.t p) c.z k.voxel (floor_is (form (column_z m) m.t p) unit unit_positive) near.z s0 r.voxel_high step.z;
+      x = cam_q30_axis_within (cam_q30_axis (column_x m) m.t p) (cam_axis (column_x m) m.t p) c.x k.voxel (floor_is (cam_q30_axis (column_x m) m.t p) unit unit_positive) near.x s0 r.voxel_high step.x;
+      y = cam_q30_axis_within (cam_q30_axis (column_y m) m.t p) (cam_axis (column_y m) m.t p) c.y k.voxel (floor_is (cam_q30_axis (column_y m) m.t p) unit unit_positive) near.y s0 r.voxel_high step.y;
+      z = cam_q30_axis_within (cam_q30_axis (column_z m) m.t p) (cam_axis (column_z m) m.t p) c.z k.voxel (floor_is (cam_q30_axis (column_z m) m.t p) unit unit_positive) near.z s0 r.voxel_high step.z;
     }

@@ -4,23 +4,23 @@ ghost use Rattle.std.specs.Prelude.{◌≡◌, ◌^◌, pos, IsTrue};
 ghost use Rattle.fixed_geom.specs.Vectors.{IsWithin};
 ghost use Rattle.camera.specs.Grid.{point_of};
 ghost use Rattle.camera.specs.Visibility.{may_be_seen};
-ghost use Rattle.fuse_kernel.specs.Walks.{FormsWithin, forms_of};
+ghost use Rattle.fuse_kernel.specs.Walks.{NearCamQ30Within, cam_q30_of};
 
-use crate::forms::Forms;
+use crate::near_cam_q30::NearCamQ30;
 use camera::Camera;
 use fixed_geom::Pose;
 use voxel_block::BlockKey;
 
 /// The forms of the first voxel of a block that may be seen.
-pub fn corner(camera: &Camera, pose: &Pose, key: BlockKey) -> Forms
+pub fn corner(camera: &Camera, pose: &Pose, key: BlockKey) -> NearCamQ30
     requires { IsTrue (may_be_seen camera.now pose.now key) }
-    ensures value { result ≡ forms_of pose.now (point_of camera.now.voxel key 0) }
-    ensures bound { FormsWithin (pos (2 ^ 55)) result }
+    ensures value { result ≡ cam_q30_of pose.now (point_of camera.now.voxel key 0) }
+    ensures bound { NearCamQ30Within (pos (2 ^ 55)) result }
 {
     // What a camera has passed bounds the forms.
     let _camera = camera.fields();
-    let far = pose.forms(camera.voxel_point(key, 0));
-    Forms {
+    let far = pose.cam_q30(camera.voxel_point(key, 0));
+    NearCamQ30 {
         x: narrow(far.x),
         y: narrow(far.y),
         z: narrow(far.z),
@@ -28,10 +28,10 @@ pub fn corner(camera: &Camera, pose: &Pose, key: BlockKey) -> Forms
 }
 
 /// The form in 64 bits.
-fn narrow(form: i128) -> i64
-    requires { IsWithin (pos (2 ^ 55)) form }
-    ensures value { result ≡ form }
+fn narrow(cam_q30_axis: i128) -> i64
+    requires { IsWithin (pos (2 ^ 55)) cam_q30_axis }
+    ensures value { result ≡ cam_q30_axis }
     ensures bound { IsWithin (pos (2 ^ 55)) result }
 {
-    form as i64
+    cam_q30_axis as i64
 }

@@ -3,7 +3,7 @@
 
 mod averaging;
 mod corner;
-mod forms;
+mod near_cam_q30;
 pub mod laws;
 pub mod plain;
 mod projection;

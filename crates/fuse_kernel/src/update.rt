@@ -70,10 +70,10 @@ fn update_row(
         → block.old ≡ updated_to (view_of camera.now m frame.now) max_weight b (8 * row) voxels
         → block.new ≡ updated_to (view_of camera.now m frame.now) max_weight b (8 * (row + 1)) voxels }
 {
-    let mut forms = walk.row(row);
+    let mut near_cam_q30 = walk.row(row);
     for x in 0..8 {
-        update_voxel(block, 8 * row + x, forms.point(), camera, frame, max_weight);
-        forms = forms.plus(walk.x);
+        update_voxel(block, 8 * row + x, near_cam_q30.point(), camera, frame, max_weight);
+        near_cam_q30 = near_cam_q30.plus(walk.x);
     }
 }
 

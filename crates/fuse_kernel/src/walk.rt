@@ -3,10 +3,10 @@ ghost use Rattle.std.specs.Prelude.{◌≡◌, ◌^◌, ◌<◌, ◌/◌, ◌%�
 ghost use Rattle.fixed_geom.specs.Poses.{entry_bound};
 ghost use Rattle.fixed_geom.specs.Vectors.{IsWithin, vec};
 ghost use Rattle.camera.specs.Visibility.{may_be_seen};
-ghost use Rattle.fuse_kernel.specs.Walks.{FormsWithin, IsShort, forms_at, step_by, walk_of};
+ghost use Rattle.fuse_kernel.specs.Walks.{NearCamQ30Within, IsShort, cam_q30_at, step_by, walk_of};
 
 use crate::corner::corner;
-use crate::forms::Forms;
+use crate::near_cam_q30::NearCamQ30;
 use camera::Camera;
 use fixed_geom::{Pose, PoseRows};
 use voxel_block::BlockKey;
@@ -14,10 +14,10 @@ use voxel_block::BlockKey;
 /// The forms of a block's corner, and what a step of one voxel along each axis of the block adds to them.
 #[derive(Clone, Copy)]
 pub struct Walk {
-    pub corner: Forms,
-    pub x: Forms,
-    pub y: Forms,
-    pub z: Forms,
+    pub corner: NearCamQ30,
+    pub x: NearCamQ30,
+    pub y: NearCamQ30,
+    pub z: NearCamQ30,
 }
 
 impl Walk {
@@ -38,22 +38,22 @@ impl Walk {
     }
 
     /// The forms of the first voxel of a row along x. A block has 64 of them, 8 for each z.
-    pub fn row(&self, row: u16) -> Forms
+    pub fn row(&self, row: u16) -> NearCamQ30
         requires bound { IsShort self.now }
         requires row { row < 64 }
-        ensures { result ≡ forms_at self.now (pos 0) (pos (row % 8)) (pos (row / 8)) }
+        ensures { result ≡ cam_q30_at self.now (pos 0) (pos (row % 8)) (pos (row / 8)) }
     {
         let (y, z) = (i64::from(row % 8), i64::from(row / 8));
-        Forms {
-            x: row_on(self.corner.x, self.y.x, y, self.z.x, z),
-            y: row_on(self.corner.y, self.y.y, y, self.z.y, z),
-            z: row_on(self.corner.z, self.y.z, y, self.z.z, z),
+        NearCamQ30 {
+            x: row_axis(self.corner.x, self.y.x, y, self.z.x, z),
+            y: row_axis(self.corner.y, self.y.y, y, self.z.y, z),
+            z: row_axis(self.corner.z, self.y.z, y, self.z.z, z),
         }
     }
 }
 
 /// The form of a row's first voxel on one axis: `y` steps of `b` and `z` steps of `c` from the corner's.
-fn row_on(corner: i64, b: i64, y: i64, c: i64, z: i64) -> i64
+fn row_axis(corner: i64, b: i64, y: i64, c: i64, z: i64) -> i64
     requires corner { IsWithin (pos (2 ^ 55)) corner }
     requires b { IsWithin (pos (2 ^ 47)) b }
     requires y { IsWithin (pos 8) y }
@@ -74,22 +74,22 @@ fn steps(n: i64, step: i64) -> i64
 }
 
 /// What a step of one voxel adds to the forms, by the entries of a row of the rotation.
-fn step(voxel: i64, x: i64, y: i64, z: i64) -> Forms
+fn step(voxel: i64, x: i64, y: i64, z: i64) -> NearCamQ30
     requires voxel { IsWithin (pos 100000) voxel }
     requires x { IsWithin entry_bound x }
     requires y { IsWithin entry_bound y }
     requires z { IsWithin entry_bound z }
     ensures value { result ≡ step_by voxel (vec x y z) }
-    ensures bound { FormsWithin (pos (2 ^ 47)) result }
+    ensures bound { NearCamQ30Within (pos (2 ^ 47)) result }
 {
-    Forms {
-        x: step_on(voxel, x),
-        y: step_on(voxel, y),
-        z: step_on(voxel, z),
+    NearCamQ30 {
+        x: step_axis(voxel, x),
+        y: step_axis(voxel, y),
+        z: step_axis(voxel, z),
     }
 }
 
-fn step_on(voxel: i64, entry: i64) -> i64
+fn step_axis(voxel: i64, entry: i64) -> i64
     requires voxel { IsWithin (pos 100000) voxel }
     requires entry { IsWithin entry_bound entry }
     ensures value { result ≡ voxel *ℤ entry }

@@ -4,7 +4,7 @@ use Rattle.scan_io.specs.Reading.{held, Stream, KnownReads, Reads, Came, byte_at
 use Rattle.scan_io.specs.Steps.{◌>>=◌}
 use Rattle.scan_io.proofs.ReadingLemmas.{came_ok, came_bad, reads_memory, KeepsEnds}
 use Rattle.fixed_geom.specs.declared.pose.PoseRows.{PoseRows}
-use Rattle.depth_frame.specs.Pictures.{Picture}
+use Rattle.depth_frame.specs.DepthMaps.{DepthMap}
 use Rattle.depth_frame.specs.Pgm.{pgm_of}
 use Rattle.scan_lang.specs.declared.error.BadScan.{BadScan}
 use Rattle.scan_lang.specs.declared.error.BadWhat.TheVariants as what
@@ -81,16 +81,16 @@ end_split left place is (b ∷ t) = rw is refl
 pub ends_in_scan : KeepsEnds bad_pgm Rattle.depth_frame.specs.Pgm.short short
 ends_in_scan = record { place = λ n. n; is = λ n. refl }
 
-abbrev pub depths_at : (place : ℕ) → List ℕ → Result (Picture × List ℕ) BadScan
+abbrev pub depths_at : (place : ℕ) → List ℕ → Result (DepthMap × List ℕ) BadScan
 depths_at place t = turned bad_pgm (pgm_of place t)
 
-frame_again : (left place now : ℕ) (rows : PoseRows) (f : Picture) (front other : List ℕ) → now ≡ behind place (length front) → depths_at place (front ++ other) ≡ Ok (f, other)
+frame_again : (left place now : ℕ) (rows : PoseRows) (f : DepthMap) (front other : List ℕ) → now ≡ behind place (length front) → depths_at place (front ++ other) ≡ Ok (f, other)
     → entry_behind left place (heads.Frame rows) (front ++ other) ≡ Ok (told_with left now (entries.Frame rows f), other)
 frame_again left place now rows f front other at is =
     let n : length (front ++ other) - length other ≡ length front = simp length-append (omega arith) in
     rw (is, n, at) refl
 
-frame_known : (left place now : ℕ) (rows : PoseRows) (f : Picture) (old new l : Option (List ℕ)) → held now ≡ now → KnownReads scan_errors (λ (x : Picture). x) (depths_at place) place now old new l (Ok f)
+frame_known : (left place now : ℕ) (rows : PoseRows) (f : DepthMap) (old new l : Option (List ℕ)) → held now ≡ now → KnownReads scan_errors (λ (x : DepthMap). x) (depths_at place) place now old new l (Ok f)
     → KnownReads scan_errors (told_with left now) (entry_behind left place (heads.Frame rows)) place now old new l (Ok (entries.Frame rows f))
 frame_known left place now rows f None new l small h = tt
 frame_known left place now rows f (Some text) None l small h = absurd h
@@ -102,6 +102,6 @@ frame_known left place now rows f (Some text) (Some rest) l small h = record {
 }
 
 -- the depth map of a frame was read
-pub frame_read : (left : ℕ) (rows : PoseRows) (f : Picture) (old new : Stream) (l : Option (List ℕ)) → held new.given ≡ new.given → Reads scan_errors (λ (x : Picture). x) (depths_at old.given) old new l (Ok f)
+pub frame_read : (left : ℕ) (rows : PoseRows) (f : DepthMap) (old new : Stream) (l : Option (List ℕ)) → held new.given ≡ new.given → Reads scan_errors (λ (x : DepthMap). x) (depths_at old.given) old new l (Ok f)
     → Reads scan_errors (told_with left new.given) (entry_behind left old.given (heads.Frame rows)) old new l (Ok (entries.Frame rows f))
 frame_read left rows f old new l small h = record { known = frame_known left old.given new.given rows f old.come new.come l small h.known }

@@ -2,7 +2,7 @@
 use Rattle.std.proofs.Common.{◌≡◌, ℕ, zero, suc, ◌+◌, ◌-◌, List, length, Option, None, Some, Result, Ok, Err, refl}
 use Rattle.scan_io.specs.Reading.{turned}
 use Rattle.scan_io.specs.Steps.{◌>>=◌}
-use Rattle.depth_frame.specs.Pictures.{Picture}
+use Rattle.depth_frame.specs.DepthMaps.{DepthMap}
 use Rattle.depth_frame.specs.Pgm.{pgm_of}
 use Rattle.fixed_geom.specs.declared.pose.PoseRows.{PoseRows}
 use Rattle.scan_lang.specs.declared.error.BadScan.{BadScan}
@@ -19,7 +19,7 @@ abbrev pub further : Read → List ℕ → Records
 further r rest = records_of r.left r.place rest
 
 -- an entry that a line begins does not change how many lines may follow
-behind_frame : (n place : ℕ) (rows : PoseRows) (rest : List ℕ) (p : Result (Picture × List ℕ) BadScan)
+behind_frame : (n place : ℕ) (rows : PoseRows) (rest : List ℕ) (p : Result (DepthMap × List ℕ) BadScan)
     → records_from (λ r more. records_of n r.place more) (p >>= λ q. Ok (record { entry = Frame rows q.0; left = n; place = behind place (length rest - length q.1) }, q.1))
     ≡ records_from further (p >>= λ q. Ok (record { entry = Frame rows q.0; left = n; place = behind place (length rest - length q.1) }, q.1))
 behind_frame n place rows rest (Ok q) = refl

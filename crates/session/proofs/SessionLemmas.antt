@@ -9,7 +9,7 @@ use Rattle.fixed_geom.specs.Poses.{Pose, IsPose}
 use Rattle.fixed_geom.specs.PoseTest.{accepted, pose_of}
 use Rattle.fixed_geom.specs.declared.pose.PoseRows.{PoseRows}
 use Rattle.fixed_geom.specs.declared.pose.BadPose.{BadPose}
-use Rattle.depth_frame.specs.Pictures.{Picture}
+use Rattle.depth_frame.specs.DepthMaps.{DepthMap}
 use Rattle.scan_lang.specs.Config.{Config, IsConfig}
 use Rattle.session.specs.declared.frame.Frame.{Frame}
 use Rattle.session.specs.declared.error.FrameError.{FrameError}
@@ -31,7 +31,7 @@ right_of : (a b : Bool) → (a && b) ≡ true → b ≡ true
 right_of true b e = e
 right_of false b e = absurd (cc)
 
-pub is_frame : (c : Config) (pose : Pose) (depths : Picture) (f : Frame) → f ≡ frame_of c pose depths → IsConfig c → IsPose pose → has_size c depths ≡ true → IsFrame f
+pub is_frame : (c : Config) (pose : Pose) (depths : DepthMap) (f : Frame) → f ≡ frame_of c pose depths → IsConfig c → IsPose pose → has_size c depths ≡ true → IsFrame f
 is_frame c pose depths f e config p sides =
     let w = int_eq (pos depths.width) c.camera.width in
     let h = int_eq (pos depths.height) c.camera.height in
@@ -50,7 +50,7 @@ is_frame c pose depths f e config p sides =
 err_same : {X : Type 0} (a b : FrameError) → ◌≡◌ {A = Result X FrameError} (Err a) (Err b) → a ≡ b
 err_same a b e = cc
 
-module _ (c : Config) (s : State) (rows : PoseRows) (depths : Picture) where
+module _ (c : Config) (s : State) (rows : PoseRows) (depths : DepthMap) where
   -- what is judged, by what its tests answer
   by_tests : (b : Bool) (r : Result Pose BadPose) → has_size c depths ≡ b → accepted (pose_of rows) ≡ r → judged c s rows depths ≡ cond b (with_pose c s depths r) (Err size)
   unfolding judged

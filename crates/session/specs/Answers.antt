@@ -4,7 +4,7 @@ use Rattle.fixed_geom.specs.Poses.{Pose}
 use Rattle.fixed_geom.specs.PoseTest.{accepted, pose_of}
 use Rattle.fixed_geom.specs.declared.pose.PoseRows.{PoseRows}
 use Rattle.fixed_geom.specs.declared.pose.BadPose.{BadPose}
-use Rattle.depth_frame.specs.Pictures.{Picture}
+use Rattle.depth_frame.specs.DepthMaps.{DepthMap}
 use Rattle.block_places.specs.Places.{Places, blocks_of}
 use Rattle.scan_lang.specs.Config.{Config}
 use Rattle.scan_lang.specs.declared.reply.FrameDone.{FrameDone}
@@ -28,7 +28,7 @@ abbrev pub state_of : Held → State
 state_of h = record { blocks = blocks_of h.places; frames = h.frames; last = h.last }
 
 -- what is answered to a frame is what is judged of it, unless memory runs out
-abbrev pub AnswersFrame : Config → State → PoseRows → Picture → Result FrameDone FrameError → Type 0
+abbrev pub AnswersFrame : Config → State → PoseRows → DepthMap → Result FrameDone FrameError → Type 0
 AnswersFrame c s rows depths (Ok done) = (f : Frame) × (judged c s rows depths ≡ Ok f) × (done ≡ frame_done f (fused s f))
 AnswersFrame c s rows depths (Err (errors.Size width height)) = (judged c s rows depths ≡ Err size) × (width ≡ depths.width) × (height ≡ depths.height)
 AnswersFrame c s rows depths (Err (errors.BadPose why)) = judged c s rows depths ≡ Err (bad_pose why)
@@ -38,12 +38,12 @@ AnswersFrame c s rows depths (Err errors.NoMemory) = ⊤
 -- ---- the two steps of it, of which only its parts speak
 
 -- a pose and a depth map make a frame
-abbrev pub posed : Config → Picture → Result Pose BadPose → Result Frame FrameError
+abbrev pub posed : Config → DepthMap → Result Pose BadPose → Result Frame FrameError
 posed c depths (Err why) = Err (errors.BadPose why)
 posed c depths (Ok pose) = Ok (frame_of c pose depths)
 
 -- the frame of rows and a depth map, before its room is judged
-abbrev pub offered : Config → PoseRows → Picture → Result Frame FrameError
+abbrev pub offered : Config → PoseRows → DepthMap → Result Frame FrameError
 offered c rows depths = if has_size c depths then posed c depths (accepted (pose_of rows)) else Err (errors.Size depths.width depths.height)
 
 -- what is answered where n blocks would be active: n itself, if it is not above the limit

@@ -11,7 +11,7 @@ use Rattle.fixed_geom.specs.declared.pose.BadPose.{BadPose}
 use Rattle.fixed_geom.specs.declared.pose.BadPose.TheVariants as poses
 use Rattle.voxel_block.specs.declared.key.BlockKey.{BlockKey}
 use Rattle.voxel_block.specs.declared.voxel.Voxel.{Voxel}
-use Rattle.depth_frame.specs.Pictures.{Picture}
+use Rattle.depth_frame.specs.DepthMaps.{DepthMap}
 use Rattle.camera.specs.Grid.{voxel_coordinates}
 use Rattle.scan_lang.specs.Config.{Config}
 use Rattle.scan_lang.specs.declared.entry.Entry.{Entry}
@@ -57,19 +57,19 @@ pub data Refusal : Type 0 where
   heap : Refusal
 
 -- whether a depth map has the sides of the configuration
-abbrev pub has_size : Config → Picture → Bool
+abbrev pub has_size : Config → DepthMap → Bool
 has_size c p = int_eq (pos p.width) c.camera.width && int_eq (pos p.height) c.camera.height
 
 -- the blocks that would be active have to find room
 abbrev pub with_room : Config → State → Frame → Result Frame Refusal
 with_room c s f = if nat_le (need s.blocks f) c.heap_blocks then Ok f else Err heap
 
-abbrev pub with_pose : Config → State → Picture → Result Pose BadPose → Result Frame Refusal
+abbrev pub with_pose : Config → State → DepthMap → Result Pose BadPose → Result Frame Refusal
 with_pose c s depths (Err why) = Err (bad_pose why)
 with_pose c s depths (Ok pose) = with_room c s (frame_of c pose depths)
 
 -- the frame of rows and a depth map, or why it is refused: its size is judged first, then its pose, then the room
-unfoldable pub judged : Config → State → PoseRows → Picture → Result Frame Refusal
+unfoldable pub judged : Config → State → PoseRows → DepthMap → Result Frame Refusal
 judged c s rows depths = if has_size c depths then with_pose c s depths (accepted (pose_of rows)) else Err size
 
 -- a frame that is refused changes nothing

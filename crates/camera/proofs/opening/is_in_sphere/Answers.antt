@@ -18,6 +18,6 @@ returns c =
     let x = to_z-of_z w64 c.args.x c.ranges.x in
     let y = to_z-of_z w64 c.args.y c.ranges.y in
     let z = to_z-of_z w64 c.args.z c.ranges.z in
-    let margin = to_z-of_z w64 c.args.margin c.ranges.margin in
+    let opening_margin = to_z-of_z w64 c.args.opening_margin c.ranges.opening_margin in
     let radius = to_z-of_z w64 c.args.radius c.ranges.radius in
-    rw (three, square, c.square.ensures.value, c.wide_square-x.ensures.value, c.wide_square-y.ensures.value, c.wide_square-z.ensures.value, x, y, z, margin, radius) refl
+    rw (three, square, c.square.ensures.value, c.wide_square-x.ensures.value, c.wide_square-y.ensures.value, c.wide_square-z.ensures.value, x, y, z, opening_margin, radius) refl

@@ -6,7 +6,7 @@ use mir.Syntax.{w64}
 use Rattle.fixed_geom.specs.Vectors.{AreWithin}
 use Rattle.fixed_geom.proofs.Wide.{same_vec}
 use Rattle.camera.specs.declared.camera.CameraFields.{CameraFields}
-use Rattle.camera.specs.Cameras.{ray_on}
+use Rattle.camera.specs.Cameras.{ray_axis}
 use Rattle.camera.proofs.RayLemmas.{ray_near, column_inside}
 use Rattle.band_walk.proofs.row.Row.ray.Goals as goal
 
@@ -20,8 +20,8 @@ returns-clause-value c =
     let fy : to_z w64 (of_z w64 c.fields-camera.result.fy) ≡ k.fy = ap (λ (q : CameraFields). to_z w64 (of_z w64 q.fy)) is ∙ (omega (arith, ints, r.fy, r.fy_high)) in
     let cy : to_z w64 (of_z w64 c.fields-camera.result.cy) ≡ k.cy = ap (λ (q : CameraFields). to_z w64 (of_z w64 q.cy)) is ∙ (omega (arith, ints, r.cy, r.cy_high, r.height_high)) in
     let z : to_z w64 (of_z w64 c.args.z) ≡ c.args.z = to_z-of_z w64 c.args.z c.ranges.z in
-    let x : to_z w64 (of_z w64 c.ray_on.result) ≡ ray_on k.fx k.cx (pos c.args.u) c.args.z = to_z-of_z w64 c.ray_on.result (record { sfits = c.ray_on.type_inv }) ∙ c.ray_on.ensures ∙ (λ i. ray_on (fx i) (cx i) (pos c.args.u) (z i)) in
-    let y : to_z w64 (of_z w64 c.ray_on-2.result) ≡ ray_on k.fy k.cy (pos c.args.self.now.v) c.args.z = to_z-of_z w64 c.ray_on-2.result (record { sfits = c.ray_on-2.type_inv }) ∙ c.ray_on-2.ensures ∙ (λ i. ray_on (fy i) (cy i) (pos c.args.self.now.v) (z i)) in
+    let x : to_z w64 (of_z w64 c.ray_axis.result) ≡ ray_axis k.fx k.cx (pos c.args.u) c.args.z = to_z-of_z w64 c.ray_axis.result (record { sfits = c.ray_axis.type_inv }) ∙ c.ray_axis.ensures ∙ (λ i. ray_axis (fx i) (cx i) (pos c.args.u) (z i)) in
+    let y : to_z w64 (of_z w64 c.ray_axis-2.result) ≡ ray_axis k.fy k.cy (pos c.args.self.now.v) c.args.z = to_z-of_z w64 c.ray_axis-2.result (record { sfits = c.ray_axis-2.type_inv }) ∙ c.ray_axis-2.ensures ∙ (λ i. ray_axis (fy i) (cy i) (pos c.args.self.now.v) (z i)) in
     same_vec _ _ _ _ _ _ x y z
 
 pub returns-clause-bound : goal.returns-clause-bound

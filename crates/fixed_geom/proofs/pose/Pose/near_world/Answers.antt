@@ -12,9 +12,9 @@ returns-clause-value c =
     let m = c.self.inside in
     let t = c.self.invariant.range.t in
     same_vec _ _ _ _ _ _
-    (near_world_is _ m.t.x m.x c.args.c (record { sfits = c.world_on.type_inv }) t.x c.world_on.ensures)
-    (near_world_is _ m.t.y m.y c.args.c (record { sfits = c.world_on-2.type_inv }) t.y c.world_on-2.ensures)
-    (near_world_is _ m.t.z m.z c.args.c (record { sfits = c.world_on-3.type_inv }) t.z c.world_on-3.ensures)
+    (near_world_is _ m.t.x m.x c.args.c (record { sfits = c.world_axis.type_inv }) t.x c.world_axis.ensures)
+    (near_world_is _ m.t.y m.y c.args.c (record { sfits = c.world_axis-2.type_inv }) t.y c.world_axis-2.ensures)
+    (near_world_is _ m.t.z m.z c.args.c (record { sfits = c.world_axis-3.type_inv }) t.z c.world_axis-3.ensures)
     ∙ ap (λ (n : Pose). world n c.args.c) c.self.view_is
 
 pub returns-clause-bound : goal.returns-clause-bound

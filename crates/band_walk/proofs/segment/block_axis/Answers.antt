@@ -5,7 +5,7 @@ use Rattle.fixed_geom.specs.Division.{floor_div}
 use mir.Syntax.{w64}
 use Rattle.band_walk.proofs.Machine.{narrow_same}
 use Rattle.band_walk.proofs.SampleLemmas.{block_on_from}
-use Rattle.band_walk.proofs.segment.block_on.Goals as goal
+use Rattle.band_walk.proofs.segment.block_axis.Goals as goal
 
 pub returns : goal.returns
 returns c =

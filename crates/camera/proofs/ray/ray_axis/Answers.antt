@@ -5,7 +5,7 @@ use mir.Val.{to_z, of_z}
 use mir.Syntax.{w64}
 use Rattle.fixed_geom.specs.Vectors.{IsWithin}
 use Rattle.camera.proofs.Machine.{product_same}
-use Rattle.camera.proofs.ray.ray_on.Goals as goal
+use Rattle.camera.proofs.ray.ray_axis.Goals as goal
 
 pub returns : goal.returns
 returns c =

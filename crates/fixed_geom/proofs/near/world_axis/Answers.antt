@@ -4,7 +4,7 @@ use Rattle.fixed_geom.specs.Division.{floor_div}
 use Rattle.fixed_geom.specs.Poses.{unit}
 use Rattle.fixed_geom.specs.Vectors.{dot}
 use Rattle.fixed_geom.proofs.NearWorlds.{same60, moved_fits, moved_is}
-use Rattle.fixed_geom.proofs.near.world_on.Goals as goal
+use Rattle.fixed_geom.proofs.near.world_axis.Goals as goal
 
 pub overflow_add-result : goal.overflow_add-result
 overflow_add-result c = moved_fits c.args.t c.units.result c.requires.t c.units.ensures.bound

@@ -2,7 +2,7 @@ use Rattle.std.proofs.Common.{◌≡◌, ◌∙◌, refl}
 use Rattle.std.specs.Prelude.{◌*ℤ◌}
 use Rattle.std.proofs.lemmas.Int.{to_z-of_z}
 use Rattle.fuse_kernel.proofs.Machine.{sums_fit, sums_read}
-use Rattle.fuse_kernel.proofs.walk.row_on.Goals as goal
+use Rattle.fuse_kernel.proofs.walk.row_axis.Goals as goal
 
 pub overflow_add-result-2 : goal.overflow_add-result-2
 overflow_add-result-2 c = sums_fit c.args.corner c.steps.result c.steps-2.result c.requires.corner c.steps.ensures.bound c.steps-2.ensures.bound

@@ -2,27 +2,27 @@ ghost use Rattle.std.specs.Prelude.{◌≡◌, ◌^◌, pos, ◌+ℤ◌};
 ghost use Rattle.fixed_geom.specs.Division.{floor_div};
 ghost use Rattle.fixed_geom.specs.Vectors.{AreWithin, IsWithin};
 ghost use Rattle.fixed_geom.specs.Poses.{unit};
-ghost use Rattle.fuse_kernel.specs.Walks.{FormsWithin, point_by, stepped};
+ghost use Rattle.fuse_kernel.specs.Walks.{NearCamQ30Within, point_by, stepped};
 
 use fixed_geom::Vec3;
 
 /// The forms of a point on the camera's three axes, in 64 bits: its camera coordinates times `2^30`, before they are made
 /// whole micrometres.
 #[derive(Clone, Copy)]
-pub struct Forms {
+pub struct NearCamQ30 {
     pub x: i64,
     pub y: i64,
     pub z: i64,
 }
 
-impl Forms {
+impl NearCamQ30 {
     /// The forms after one more step.
-    pub fn plus(self, step: Forms) -> Forms
-        requires forms { FormsWithin (pos (2 ^ 56)) self }
-        requires step { FormsWithin (pos (2 ^ 56)) step }
+    pub fn plus(self, step: NearCamQ30) -> NearCamQ30
+        requires near_cam_q30 { NearCamQ30Within (pos (2 ^ 56)) self }
+        requires step { NearCamQ30Within (pos (2 ^ 56)) step }
         ensures { result ≡ stepped self step }
     {
-        Forms {
+        NearCamQ30 {
             x: sum(self.x, step.x),
             y: sum(self.y, step.y),
             z: sum(self.z, step.z),
@@ -31,7 +31,7 @@ impl Forms {
 
     /// The camera point that the forms tell.
     pub fn point(self) -> Vec3
-        requires { FormsWithin (pos (2 ^ 56)) self }
+        requires { NearCamQ30Within (pos (2 ^ 56)) self }
         ensures value { result ≡ point_by self }
         ensures bound { AreWithin (pos (2 ^ 26)) result }
     {
@@ -52,10 +52,10 @@ fn sum(a: i64, b: i64) -> i64
 }
 
 /// A camera coordinate by its form: the floor of a division by `2^30`.
-fn coordinate(form: i64) -> i64
-    requires { IsWithin (pos (2 ^ 56)) form }
-    ensures value { result ≡ floor_div form unit }
+fn coordinate(cam_q30_axis: i64) -> i64
+    requires { IsWithin (pos (2 ^ 56)) cam_q30_axis }
+    ensures value { result ≡ floor_div cam_q30_axis unit }
     ensures bound { IsWithin (pos (2 ^ 26)) result }
 {
-    form >> 30
+    cam_q30_axis >> 30
 }

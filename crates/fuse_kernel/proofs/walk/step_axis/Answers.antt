@@ -6,7 +6,7 @@ use Rattle.fixed_geom.specs.Poses.{entry_bound}
 use Rattle.fixed_geom.proofs.Dots.{within_product}
 use Rattle.camera.proofs.Machine.{product_same}
 use Rattle.camera.proofs.Readings.{wider}
-use Rattle.fuse_kernel.proofs.walk.step_on.Goals as goal
+use Rattle.fuse_kernel.proofs.walk.step_axis.Goals as goal
 
 pub returns-clause-value : goal.returns-clause-value
 returns-clause-value c = rw (to_z-of_z _ _ c.ranges.voxel, to_z-of_z _ _ c.ranges.entry) (product_same 100000 1073872896 c.args.voxel c.args.entry c.requires.voxel c.requires.entry (omega arith))

@@ -7,7 +7,7 @@ use Rattle.fixed_geom.specs.Vectors.{IsWithin}
 use Rattle.fixed_geom.specs.Division.{floor_div}
 use Rattle.band_walk.proofs.Machine.{sum_fits, sum_same}
 use Rattle.band_walk.proofs.SampleLemmas.{sample_on_within}
-use Rattle.band_walk.proofs.segment.sample_on.Goals as goal
+use Rattle.band_walk.proofs.segment.sample_axis.Goals as goal
 
 part : (c : goal.After-floor_by) → ℤ
 part c = floor_div (pos c.args.j *ℤ (c.args.end -ℤ c.args.start)) (pos c.args.n)
