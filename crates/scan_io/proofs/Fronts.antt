@@ -13,21 +13,21 @@ pub data Front {Y W : Type 0} (Other : W → Type 0) (ended : W) (P : Y → List
 
 -- ---- parts
 
--- nothing is read
+-- a value that reads nothing
 pub front_ok : {Y W : Type 0} {Other : W → Type 0} {ended : W} {P : Y → List ℕ → Type 0} (y : Y) (text : List ℕ) → P y text → Front Other ended P (λ t. Ok (y, t)) text
 front_ok y text p = whole y text p (λ more. refl)
 
--- all is refused
+-- every text is refused
 pub front_err : {Y W : Type 0} {Other : W → Type 0} {ended : W} {P : Y → List ℕ → Type 0} (why : W) (text : List ℕ) → Other why → Front Other ended P (λ t. Err why) text
 front_err why text other = bad why other (λ more. refl)
 
--- the first byte is read
+-- the first byte of the text
 pub front_cons : {Y W : Type 0} {Other : W → Type 0} {ended : W} {P : Y → List ℕ → Type 0} {parse : List ℕ → Result (Y × List ℕ) W} (b : ℕ) (text : List ℕ) → Front Other ended P (λ t. parse (b ∷ t)) text → Front Other ended P parse (b ∷ text)
 front_cons b text (whole y rest p again) = whole y rest p again
 front_cons b text (bad why other again) = bad why other again
 front_cons b text (cut is) = cut is
 
--- by a test
+-- one of two parts, by a test
 pub front_if : {Y W : Type 0} {Other : W → Type 0} {ended : W} {P : Y → List ℕ → Type 0} {f g : List ℕ → Result (Y × List ℕ) W} (test : Bool) (text : List ℕ)
     → (test ≡ true → Front Other ended P f text) → (test ≡ false → Front Other ended P g text) → Front Other ended P (λ t. cond test (f t) (g t)) text
 front_if true text on off = on refl
@@ -61,12 +61,12 @@ front_turned f text end others known (whole y rest p again) = whole y rest (know
 front_turned f text end others known (bad why other again) = bad (f why) (others why other) (λ more. ap (turned f) (again more))
 front_turned f text end others known (cut is) = cut (ap (turned f) is ∙ ap Err end)
 
--- one byte, which stands at the place n of a text that ends at the place end
+-- one byte, at offset n of a text that ends at offset end
 pub front_byte : {W : Type 0} {Other : W → Type 0} (ended : ℕ → W) (n end : ℕ) (text : List ℕ) → n + length text ≡ end → Front Other (ended end) (λ b rest. suc n + length rest ≡ end) (byte_at ended n) text
 front_byte ended n end [] is = let e : n ≡ end = omega arith in cut (ap (λ (k : ℕ). Err (ended k)) e)
 front_byte ended n end (b ∷ rest) is = whole b rest (omega arith) (λ more. refl)
 
--- ---- a result that no more of the text is read for
+-- ---- a result that reads nothing more
 
 -- P holds of the value, or Q of the refusal
 pub record Given {Y W : Type 0} (P : Y → Type 0) (Q : W → Type 0) (r : Result Y W) : Type 0 where
@@ -82,7 +82,7 @@ pub given_if : {Y W : Type 0} {P : Y → Type 0} {Q : W → Type 0} {f g : Resul
 given_if true on off = on refl
 given_if false on off = off refl
 
--- the result goes with the text
+-- the result, and the whole text as the rest
 pub front_given : {Y W : Type 0} {Other : W → Type 0} {ended : W} (P : Y → List ℕ → Type 0) (r : Result Y W) (text : List ℕ) → Given (λ y. P y text) Other r → Front Other ended P (λ t. r >>= λ y. Ok (y, t)) text
 front_given P (Ok y) text given = whole y text given.is (λ more. refl)
 front_given P (Err why) text given = bad why given.is (λ more. refl)

@@ -46,6 +46,13 @@ impl MemSource {
         }
     }
 
+    /// How often it failed.
+    pub fn faults(&self) -> u64
+        ensures { result ≡ self.now.faults }
+    {
+        self.faults
+    }
+
     // Counts this call, and returns whether it is one of those that fail.
     fn is_failing(&mut self) -> bool
         ensures fails { IsTrue result ↔ Contains self.old.fails self.old.calls }
