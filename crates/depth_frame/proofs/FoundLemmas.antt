@@ -197,14 +197,14 @@ number_found b n text k u gap h =
     let d = bind_ok (gap_end (eqb b 35) (n + 1) text) (λ d. number_end d.0.offset (d.0.byte - 48) (d.0.offset + 1) d.1) (k, u) h in
     number_by b n text k u d.0.0 d.0.1 (whole_gap b n text d.0.0 d.0.1 (eqb b 35) gap refl (found text (eqb b 35) (n + 1) d.0.0 d.0.1 d.1)) (digits_found d.0.1 d.0.0.offset (d.0.0.byte - 48) (d.0.0.offset + 1) k u d.2)
 
-record Side (k j : Number) : Type 0 where
+record GoodSide (k j : Number) : Type 0 where
   same : k ≡ j
   after : starts_gap k.after ≡ true
   least : 1 ≤ k.value
   most : k.value ≤ 4096
   low : k.offset < 4096
 
-side_found : (k j : Number) → side_judged k ≡ Ok j → Side k j
+side_found : (k j : Number) → side_judged k ≡ Ok j → GoodSide k j
 side_found k j h =
     let p = not_refused (not (starts_gap k.after)) (fault Header k.offset) _ j h in
     let q = not_refused (not (leb 1 k.value && leb k.value 4096)) (fault Header k.first) _ j p.1 in
@@ -212,14 +212,14 @@ side_found k j h =
     let s = and_parts (leb 1 k.value) (leb k.value 4096) (not-false _ q.0) in
     record { same = ok_is r.1; after = not-false _ p.0; least = leb-true _ _ s.0; most = leb-true _ _ s.1; low = leb-false _ _ r.0 }
 
-record Greatest (k j : Number) : Type 0 where
+record GoodMaxval (k j : Number) : Type 0 where
   same : k ≡ j
   after : is_white k.after ≡ true
   least : 1 ≤ k.value
   most : k.value ≤ 65535
   low : k.offset < 4096
 
-maxval_found : (k j : Number) → maxval_judged k ≡ Ok j → Greatest k j
+maxval_found : (k j : Number) → maxval_judged k ≡ Ok j → GoodMaxval k j
 maxval_found k j h =
     let p = not_refused (not (is_white k.after)) (fault Header k.offset) _ j h in
     let q = not_refused (leb header_limit k.offset) (fault Header k.offset) _ j p.1 in
@@ -300,7 +300,7 @@ samples_found maxval (suc count) n text vs u h =
 
 -- ---- the file
 
-file_by : (b : ℕ) (w h m w' h' m' : Number) (t0 tw th tm vs u : List ℕ) → FoundNumber b 2 t0 w tw → Side w w' → FoundNumber w.after w.offset tw h th → Side h h' → FoundNumber h.after h.offset th m tm → Greatest m m'
+file_by : (b : ℕ) (w h m w' h' m' : Number) (t0 tw th tm vs u : List ℕ) → FoundNumber b 2 t0 w tw → GoodSide w w' → FoundNumber w.after w.offset tw h th → GoodSide h h' → FoundNumber h.after h.offset th m tm → GoodMaxval m m'
     → FoundSamples m.value (w.value * h.value) tm vs u → FoundFile (80 ∷ 53 ∷ b ∷ t0) (record { width = w.value; height = h.value; raw = vs }) u
 file_by b w h m w' h' m' t0 tw th tm vs u fw sw fh sh fm sm fs =
     let s = subst (λ (x : ℕ). FoundSamples x (w.value * h.value) tm vs u) fm.value fs in
@@ -366,23 +366,23 @@ judged_found judge b n text j u h =
 
 record FoundSide (b n : ℕ) (text : List ℕ) (k : Number) (u : List ℕ) : Type 0 where
   number : FoundNumber b n text k u
-  side : Side k k
+  side : GoodSide k k
 
 side_read : (b n : ℕ) (text : List ℕ) (k : Number) (u : List ℕ) → starts_gap b ≡ true → judged_at side_judged b n text ≡ Ok (k, u) → FoundSide b n text k u
 side_read b n text k u gap h =
     let f = judged_found side_judged b n text k u h in
     let s = side_found f.number k f.judged in
-    record { number = subst (λ (x : Number). FoundNumber b n text x u) s.same (number_found b n text f.number u gap f.is); side = subst (λ (x : Number). Side x k) s.same s }
+    record { number = subst (λ (x : Number). FoundNumber b n text x u) s.same (number_found b n text f.number u gap f.is); side = subst (λ (x : Number). GoodSide x k) s.same s }
 
 record FoundMaxval (b n : ℕ) (text : List ℕ) (k : Number) (u : List ℕ) : Type 0 where
   number : FoundNumber b n text k u
-  greatest : Greatest k k
+  greatest : GoodMaxval k k
 
 maxval_read : (b n : ℕ) (text : List ℕ) (k : Number) (u : List ℕ) → starts_gap b ≡ true → judged_at maxval_judged b n text ≡ Ok (k, u) → FoundMaxval b n text k u
 maxval_read b n text k u gap h =
     let f = judged_found maxval_judged b n text k u h in
     let s = maxval_found f.number k f.judged in
-    record { number = subst (λ (x : Number). FoundNumber b n text x u) s.same (number_found b n text f.number u gap f.is); greatest = subst (λ (x : Number). Greatest x k) s.same s }
+    record { number = subst (λ (x : Number). FoundNumber b n text x u) s.same (number_found b n text f.number u gap f.is); greatest = subst (λ (x : Number). GoodMaxval x k) s.same s }
 
 record FoundHeader (text : List ℕ) (s : Shape) (u : List ℕ) : Type 0 where
   byte : ℕ

@@ -12,15 +12,6 @@ use Rattle.depth_frame.proofs.PgmLemmas.{raster_split}
 pub record IsPiece (maxval : ℕ) (piece : List ℕ) (v : ℕ) : Type 0 where
   pub is : (n : ℕ) (rest : List ℕ) → one_sample maxval n (piece ++ rest) ≡ Ok (v, rest)
 
--- no sample
-pub run_none : (maxval : ℕ) (vs : List ℕ) → IsRun maxval 0 [] vs vs
-run_none maxval vs = record {
-  again = λ more n rest.
-      let count : 0 + more ≡ more = omega arith in
-      let offset : n + 0 * sample_len maxval ≡ n = omega arith in
-      rw (count, offset) refl;
-}
-
 offset_more : (n k s : ℕ) → (n + k * s) + s ≡ n + suc k * s
 offset_more n k s = rw suc-mul (omega arith)
 

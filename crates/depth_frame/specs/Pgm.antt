@@ -105,9 +105,9 @@ judged role.Side = side_judged
 judged role.Maxval = maxval_judged
 
 -- the greatest number of a role
-abbrev pub greatest : Role → ℕ
-greatest role.Side = 4096
-greatest role.Maxval = 65535
+abbrev pub limit_of : Role → ℕ
+limit_of role.Side = 4096
+limit_of role.Maxval = 65535
 
 -- a gap whose first byte was read, and the number after it, once it is judged
 unfoldable pub judged_at : (Number → Result Number BadPgm) → ℕ → ℕ → List ℕ → Result (Number × List ℕ) BadPgm

@@ -3,6 +3,8 @@ ghost use Rattle.depth_frame.specs.declared.error.PgmError.TheVariants.{Bad, Rea
 
 use scan_io::Failed;
 use std::alloc::{AllocError, AllocFailed};
+use std::error::Error;
+use std::fmt;
 
 /// What is bad in the file of a depth map.
 #[derive(Clone, Copy, Debug, PartialEq, Eq)]
@@ -39,6 +41,36 @@ pub enum PgmError {
     /// Out of memory.
     NoMemory,
 }
+
+impl fmt::Display for PgmKind {
+    fn fmt<W: fmt::Write>(&self, f: &mut fmt::Formatter<W>) -> fmt::Result {
+        match self {
+            PgmKind::Magic => write!(f, "the depth map is no binary PGM"),
+            PgmKind::Header => write!(f, "the header of a depth map is bad"),
+            PgmKind::Maxval => write!(f, "the maxval is not from 1 to 65535"),
+            PgmKind::Sample => write!(f, "a sample is above the maxval"),
+            PgmKind::Short => write!(f, "the input ends inside a depth map"),
+        }
+    }
+}
+
+impl fmt::Display for BadPgm {
+    fn fmt<W: fmt::Write>(&self, f: &mut fmt::Formatter<W>) -> fmt::Result {
+        write!(f, "{}, at byte {}", self.kind, self.at)
+    }
+}
+
+impl fmt::Display for PgmError {
+    fn fmt<W: fmt::Write>(&self, f: &mut fmt::Formatter<W>) -> fmt::Result {
+        match self {
+            PgmError::Bad(why) => write!(f, "{why}"),
+            PgmError::ReadFault => write!(f, "the input could not be read"),
+            PgmError::NoMemory => write!(f, "out of memory"),
+        }
+    }
+}
+
+impl Error for PgmError {}
 
 impl From<BadPgm> for PgmError {
     ghost from_gives = { λ why e. e ≡ Bad why };

@@ -1,6 +1,6 @@
 ghost use Rattle.std.specs.Prelude.{◌≡◌, ◌<◌, ◌≤◌, ◌+◌, ◌-◌, ◌^◌, ◌==◌, IfOk};
 ghost use Rattle.depth_frame.specs.declared.error.PgmKind.TheVariants.{Header};
-ghost use Rattle.depth_frame.specs.Pgm.{short, gap_end, number_end, number_at, judged_at, magic_at, header_at, judged, side_judged, maxval_judged, greatest};
+ghost use Rattle.depth_frame.specs.Pgm.{short, gap_end, number_end, number_at, judged_at, magic_at, header_at, judged, side_judged, maxval_judged, limit_of};
 ghost use Rattle.depth_frame.specs.Pgm.{is_magic as magic_test, is_white as white_test, starts_gap as gap_test, in_gap as in_gap_test, in_comment as in_comment_test};
 ghost use Rattle.depth_frame.specs.Errors.{pgm_errors};
 ghost use Rattle.scan_io.specs.Reading.{Reads, stream, byte_at};
@@ -120,7 +120,7 @@ fn read_judged<S: Source>(
     ensures number { Reads pgm_errors (λ k. k) (judged_at (judged role) gap at)
         (stream feed.old (S.left source.old) (S.faults source.old))
         (stream feed.new (S.left source.new) (S.faults source.new)) result }
-    ensures range { IfOk result (λ k. k.value ≤ greatest role) }
+    ensures range { IfOk result (λ k. k.value ≤ limit_of role) }
     ensures limit { IfOk result (λ k. k.offset < 4096) }
 {
     let number = read_number(feed, source, gap, at)?;
@@ -129,7 +129,7 @@ fn read_judged<S: Source>(
 
 fn judge(role: Role, number: Number) -> Result<Number, BadPgm>
     ensures value { result ≡ judged role number }
-    ensures range { IfOk result (λ k. k.value ≤ greatest role) }
+    ensures range { IfOk result (λ k. k.value ≤ limit_of role) }
     ensures limit { IfOk result (λ k. k.offset < 4096) }
 {
     match role {

@@ -60,16 +60,16 @@ pub fn files_are_read()
     ensures found { (start : ℕ) (text : List ℕ) (p : DepthMap) (rest : List ℕ) → pgm_of start text ≡ Ok (p, rest) → FoundFile text p rest }
 {}
 
-/// A law: a text that ends inside a file is refused as `Short`, at its end and nowhere else. It does nothing when it is
-/// called.
+/// A law: a text that ends inside a file is refused as `Short`, at its end and nowhere else.
+/// It does nothing when it is called.
 pub fn short_is_at_the_end()
     ensures end { ShortIsAtEnd }
     ensures cut { CutIsShort }
     ensures cut_refused { CutRefusalIsShort }
 {}
 
-/// A law: every refusal but `Short` is at a byte of the text, and stays whatever follows the text. It does nothing when it
-/// is called.
+/// A law: every refusal but `Short` is at a byte of the text, and stays whatever follows the text.
+/// It does nothing when it is called.
 pub fn other_refusals_stay()
     ensures inside { OthersAreInside }
     ensures stays { OthersStay }
