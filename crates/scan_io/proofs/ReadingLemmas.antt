@@ -1,10 +1,10 @@
 -- How readers of a stream follow one another.
 use Rattle.std.proofs.Common.{◌≡◌, ℕ, ◌+◌, Bool, true, false, cond, List, [], ◌∷◌, ◌++◌, length, length-append, take, drop, Option, None, Some, Result, Ok, Err, refl, sym, ap, ◌∙◌, append_assoc, min, ◌^◌, ◌-◌, ◌≤◌, arith}
-use Rattle.std.proofs.KnownBytes.{Consumes-nil, Consumes-trans}
+use Rattle.std.proofs.KnownBytes.{Appends-nil, Appends-trans, Consumes-nil, Consumes-trans}
 use Rattle.std.proofs.lemmas.List.{take-append-drop, length-take-le}
 use Rattle.std.specs.Io.KnownBytes.{Consumes, Keeps, IsAtEnd}
 use Rattle.scan_io.specs.Causes.{HasCause}
-use Rattle.scan_io.specs.Coming.{Kept, LosesFront, SameTelling, to_come}
+use Rattle.scan_io.specs.Coming.{Grows, Kept, LosesFront, SameTelling, to_come}
 use Rattle.scan_io.specs.Reading.{saturated, Stream, stream, Leads, KnownCame, Came, Cause, refused, failed, no_memory, Errors, CountedBy, KnownRefusal, KnownReads, Reads, byte_at, turned}
 use Rattle.scan_io.specs.Steps.{◌>>=◌}
 use Rattle.scan_io.specs.declared.fault.Failed.{Failed}
@@ -54,6 +54,16 @@ loses_kept feed next front left is = record { telling = same_telling feed.bytes 
 pub loses_nothing : (feed next : Kept) (old new : Option (List ℕ)) → Keeps (to_come feed old) (to_come next new) → SameTelling old new → LosesFront (to_come feed old) (to_come next new)
 loses_nothing feed next old new h telling = record { telling = same_telling feed.bytes next.bytes old new telling; front = []; lost = keeps_consumes (to_come feed old) (to_come next new) h }
 
+-- ---- bytes that are gained
+
+-- nothing was gained
+pub grows_none : (a : Option (List ℕ)) → Grows a a
+grows_none a = record { telling = refl; more = []; gained = Appends-nil a }
+
+-- some bytes after others
+pub grows_more : {a b c : Option (List ℕ)} → Grows a b → Grows b c → Grows a c
+grows_more {a = a} {b = b} {c = c} p q = record { telling = q.telling ∙ p.telling; more = p.more ++ q.more; gained = Appends-trans a b c p.more q.more p.gained q.gained }
+
 -- ---- what was read so far
 
 known_none : {R : Type 0} (f : List ℕ → R) (n : ℕ) (old : Option (List ℕ)) → KnownCame f f n n old old
@@ -97,6 +107,27 @@ came_step {errors = errors} {view = view} {whole = whole} {f = f} {sub = sub} g 
   faults = k.faults ∙ h.faults;
 }
 
+known_through : {R X Y E W : Type 0} (errors : Errors E W) (view : X → Y) (whole f g : List ℕ → R) (sub : List ℕ → Result (Y × List ℕ) W) (x : X) (a b c : ℕ) (old mid new left : Option (List ℕ))
+    → KnownCame whole f a b old mid → KnownReads errors view sub b c mid new left (Ok x) → ((t rest : List ℕ) → sub t ≡ Ok (view x, rest) → f t ≡ g rest) → KnownCame whole g a c old new
+known_through errors view whole f g sub x a b c None mid new left h k step = tt
+known_through errors view whole f g sub x a b c (Some text) None new left h k step = absurd h
+known_through errors view whole f g sub x a b c (Some text) (Some more) None left h k step = absurd k
+known_through errors view whole f g sub x a b c (Some text) (Some more) (Some rest) left h k step = record {
+  front = h.front ++ k.front;
+  is = h.is ∙ ap (λ (l : List ℕ). h.front ++ l) k.is ∙ sym (append_assoc h.front k.front rest);
+  count = count_on a b c h.front k.front h.count k.count;
+  again = λ other. ap whole (append_assoc h.front k.front other) ∙ h.again (k.front ++ other) ∙ step (k.front ++ other) other (k.again other);
+}
+
+-- a reader gave the next part, from which follows what is left to do
+pub came_through : {R X Y E W : Type 0} {errors : Errors E W} {view : X → Y} {whole f : List ℕ → R} (g : List ℕ → R) {sub : List ℕ → Result (Y × List ℕ) W} {x : X} {old mid new : Stream}
+    → Came whole f old mid → Reads errors view sub mid new (Ok x) → ((t rest : List ℕ) → sub t ≡ Ok (view x, rest) → f t ≡ g rest) → Came whole g old new
+came_through {errors = errors} {view = view} {whole = whole} {f = f} g {sub = sub} {x = x} {old = old} {mid = mid} {new = new} h k step = record {
+  known = known_through errors view whole f g sub x old.given mid.given new.given old.come mid.come new.come new.left h.known k.known step;
+  front = loses_more h.front k.front;
+  faults = k.faults ∙ h.faults;
+}
+
 -- ---- the ends of a reader
 
 refusal_on : {Y B W : Type 0} (ended : ℕ → W) (whole f : List ℕ → Result (B × List ℕ) W) (sub : List ℕ → Result (Y × List ℕ) W) (g : Y → List ℕ → Result (B × List ℕ) W) (k : Cause W) (a b : ℕ) (text more : List ℕ) (left : Option (List ℕ))
@@ -114,7 +145,8 @@ known_err errors view see whole f sub g e a b c None mid new left h k split = tt
 known_err errors view see whole f sub g e a b c (Some text) None new left h k split = absurd h
 known_err errors view see whole f sub g e a b c (Some text) (Some more) new left h k split = refusal_on errors.ended whole f sub g (errors.cause e) a b text more left h k split
 
-counted_on : {W : Type 0} (a b c : ℕ) (k : Cause W) → b ≡ a → CountedBy b c k → CountedBy a c k
+-- a count that stood still before
+pub counted_on : {W : Type 0} (a b c : ℕ) (k : Cause W) → b ≡ a → CountedBy b c k → CountedBy a c k
 counted_on a b c (refused why) same k = k ∙ same
 counted_on a b c failed same k = (omega (arith, same, k.0), omega (arith, same, k.1))
 counted_on a b c no_memory same k = k ∙ same
