@@ -2,7 +2,7 @@ ghost use Rattle.std.specs.Prelude.{◌≡◌, ◌^◌, ◌<◌, ◌+◌, ◌*�
 ghost use Rattle.std.specs.FinMap.{contains_key, empty, get, insert, keys, len, remove};
 ghost use Rattle.std.specs.Int.{IsPowerOfTwo};
 ghost use Rattle.voxel_block.specs.Blocks.{new_block};
-ghost use Rattle.spatial_hash.specs.Table.{KeepsSize, empty as empty_table};
+ghost use Rattle.spatial_hash.specs.Table.{KeepsSize, empty_table};
 ghost use Rattle.spatial_hash.specs.Contents.{contents};
 ghost use Rattle.block_heap.specs.Cells.{new_cells};
 ghost use Rattle.block_places.specs.Places.{IsPlaced, blocks_of, touched};
