@@ -22,4 +22,4 @@ returns-in-Some c = λ m b voxels at was.
 
 pub returns-in-None : goal.returns-in-None
 returns-in-None c = λ m b voxels at was.
-    unmet_more (view_of c.args.camera.now m c.args.frame.now) c.args.max_weight b c.args.i voxels c.args.block.now c.args.point at was (c.in-None.ensures.value m) c.has_all_voxels.ensures c.requires.index
+    unmet_more (view_of c.args.camera.now m c.args.frame.now) c.args.max_weight b c.args.i voxels c.args.block.now c.args.point at was (c.in-None.ensures.value m) c.len.ensures.voxels c.requires.index
