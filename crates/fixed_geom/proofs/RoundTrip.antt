@@ -157,10 +157,3 @@ round_trip m v a b c o x y z =
       y = on_axis j m.t i j k v (pos 0) unit_squared (pos 0) v.y a b c s.1 (turned (pos 0) (dot i j) (dot j i) (dot_turn i j) n.xy) n.yy n.yz x y z (only_y v.x v.y v.z);
       z = on_axis k m.t i j k v (pos 0) (pos 0) unit_squared v.z a b c s.2 (turned (pos 0) (dot i k) (dot k i) (dot_turn i k) n.xz) (turned (pos 0) (dot j k) (dot k j) (dot_turn j k) n.yz) n.zz x y z (only_z v.x v.y v.z);
     }
-
--- the same with the sizes of the coordinates
-pub round_trip_by_size : (m : Pose) (v : Vec3) → IsPose m → AreWithin (floor_div (pos (unsigned_abs v.x + unsigned_abs v.y + unsigned_abs v.z)) (pos 1024) +ℤ pos 8) (minus (cam m (world m v)) v)
-round_trip_by_size m v o = round_trip m v (pos (unsigned_abs v.x)) (pos (unsigned_abs v.y)) (pos (unsigned_abs v.z)) o (own v.x) (own v.y) (own v.z)
-  where
-    own : (z : ℤ) → IsWithin (pos (unsigned_abs z)) z
-    own z = record { low = omega (arith, ints); high = omega (arith, ints) }

@@ -10,13 +10,6 @@ use Rattle.fixed_geom.proofs.Floors.{floor_is}
 use Rattle.fixed_geom.proofs.Dots.{within_dot, within_product, unit_positive, columns_small}
 use Rattle.fixed_geom.proofs.Worlds.{floor_within}
 
--- a bound on the size of a number, and back
-pub within_from_size : (n : ℕ) (z : ℤ) → unsigned_abs z ≤ n → IsWithin (pos n) z
-within_from_size n z h = record { low = omega (arith, ints); high = omega (arith, ints) }
-
-pub size_from_within : (n : ℕ) (z : ℤ) → IsWithin (pos n) z → unsigned_abs z ≤ n
-size_from_within n z w = omega (arith, ints)
-
 -- 2^40 and 2^42
 abbrev pub wide : ℤ
 wide = pos 1099511627776
@@ -60,18 +53,8 @@ whole_within x w = plain (floor_div x unit) (floor_is x unit unit_positive)
 pub along_within : (line way : Vec3) → AreWithin entry_bound line → AreWithin way_wide way → IsWithin along_wide (floor_div (dot line way) unit)
 along_within line way small near = floor_within (dot line way) (floor_div (dot line way) unit) way_wide along_wide (floor_is (dot line way) unit unit_positive) (within_dot entry_bound way_wide line way small near) (omega (arith, ints))
 
--- so has the sum with a coordinate of the translation
-pub moved_within : (t w : ℤ) → IsWithin translation_bound t → IsWithin along_wide w → IsWithin wider (t +ℤ w)
-moved_within t w v a = record { low = omega (arith, ints); high = omega (arith, ints) }
-
 less_wide : (z : ℤ) → IsWithin along_wide z → IsWithin wider z
 less_wide z w = record { low = omega (arith, ints); high = omega (arith, ints) }
-
-all_wide : (v : Vec3) → AreWithin wide v → AreWithin way_wide v
-all_wide v w = record { x = axis v.x w.x; y = axis v.y w.y; z = axis v.z w.z }
-  where
-    axis : (z : ℤ) → IsWithin wide z → IsWithin way_wide z
-    axis z w = record { low = omega (arith, ints); high = omega (arith, ints) }
 
 -- so have the coordinates of the camera point and of the world point
 pub cam_on_within : (c t p : Vec3) → AreWithin entry_bound c → AreWithin translation_bound t → AreWithin wide p → IsWithin wider (cam_axis c t p)
@@ -81,12 +64,6 @@ pub cam_within : (m : Pose) (p : Vec3) → HasPoseRange m → AreWithin wide p �
 cam_within m p r near =
     let c = columns_small m r in
     record { x = cam_on_within (column_x m) m.t p c.0 r.t near; y = cam_on_within (column_y m) m.t p c.1 r.t near; z = cam_on_within (column_z m) m.t p c.2 r.t near }
-
-world_on_within : (r v : Vec3) (t : ℤ) → AreWithin entry_bound r → IsWithin translation_bound t → AreWithin wide v → IsWithin wider (t +ℤ floor_div (dot r v) unit)
-world_on_within r v t small far near = moved_within t (floor_div (dot r v) unit) far (along_within r v small (all_wide v near))
-
-pub world_wide : (m : Pose) (v : Vec3) → HasPoseRange m → AreWithin wide v → AreWithin wider (world m v)
-world_wide m v r near = record { x = world_on_within (row_x m) v m.t.x r.x r.t.x near; y = world_on_within (row_y m) v m.t.y r.y r.t.y near; z = world_on_within (row_z m) v m.t.z r.z r.t.z near }
 
 -- the cross product of two rows has at most 62 bits
 pub product_within : (a b : ℤ) → IsWithin entry_bound a → IsWithin entry_bound b → IsWithin (pos 2305843009213693952) (a *ℤ b)

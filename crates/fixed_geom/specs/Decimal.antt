@@ -58,12 +58,13 @@ mantissa_of text = mantissa_with (parts_of 46 46 text).0 (unwrap_or (parts_of 46
 
 -- ---- an exponent: a sign or none, and one to three digits, with a value of at most 3
 
+-- whether digits, with a minus or not, make an exponent
+abbrev pub is_exponent : Bool → List ℕ → Bool
+is_exponent negative digits = nat_le 1 (length digits) && (nat_le (length digits) 3 && (list_all is_ascii_digit digits && int_le (signed negative (number_of digits)) (pos 3)))
+
 -- by whether a minus stands first, and the digits
 abbrev pub exponent_with : Bool → List ℕ → Option ℤ
-exponent_with negative digits =
-    if nat_le 1 (length digits) && (nat_le (length digits) 3 && (list_all is_ascii_digit digits && int_le (signed negative (number_of digits)) (pos 3)))
-    then Some (signed negative (number_of digits))
-    else None
+exponent_with negative digits = if is_exponent negative digits then Some (signed negative (number_of digits)) else None
 
 -- by what stands behind the mark of an exponent, where there is one
 unfoldable pub exponent_of : Option (List ℕ) → Option ℤ

@@ -1,12 +1,12 @@
 -- How decimals are spelled.
-use Rattle.std.specs.Prelude.{◌≡◌, ℕ, ◌≤◌, ◌<◌, ◌^◌, Bool, true, false, if◌then◌else◌, List, [], ◌∷◌, ◌++◌, length, ℤ, pos, ◌-ℤ◌, ◌*ℤ◌, int_le, unsigned_abs, Option, None, Some, Result, Ok, Err}
+use Rattle.std.specs.Prelude.{◌≡◌, ℕ, ◌≤◌, ◌<◌, ◌^◌, Bool, true, false, if◌then◌else◌, List, [], ◌∷◌, ◌++◌, length, ℤ, pos, ◌-ℤ◌, ◌*ℤ◌, unsigned_abs, Option, None, Some, Result, Ok, Err}
 use Rattle.std.specs.List.{list_all}
 use Rattle.std.specs.Option.{unwrap_or}
 use Rattle.std.specs.Char.{is_ascii_digit}
 use Rattle.fixed_geom.specs.declared.spelling.Decimal.{Decimal}
 use Rattle.fixed_geom.specs.declared.decimal.BadNumber.{BadNumber}
 use Rattle.fixed_geom.specs.declared.decimal.BadNumber.TheVariants as bad
-use Rattle.fixed_geom.specs.Decimal.{number_of, signed, IsNearest}
+use Rattle.fixed_geom.specs.Decimal.{number_of, signed, is_exponent, IsNearest}
 
 -- a sign, or none
 pub data Sign : Type 0 where
@@ -57,17 +57,10 @@ spelled s = sign_bytes s.sign ++ ((s.whole ++ fraction_bytes s.fraction) ++ expo
 abbrev pub digits_of : Spelling → List ℕ
 digits_of s = s.whole ++ unwrap_or s.fraction []
 
--- one to three digits, and at most 3
-pub record IsExponent (e : Exponent) : Type 0 where
-  pub digits : list_all is_ascii_digit e.digits ≡ true
-  pub least : 1 ≤ length e.digits
-  pub most : length e.digits ≤ 3
-  pub range : int_le (signed (is_minus e.sign) (number_of e.digits)) (pos 3) ≡ true
-
--- an exponent, or none
+-- an exponent of one to three digits and at most 3, or none
 abbrev pub IsExponentPart : Option Exponent → Type 0
 IsExponentPart None = Unit {0}
-IsExponentPart (Some e) = IsExponent e
+IsExponentPart (Some e) = is_exponent (is_minus e.sign) e.digits ≡ true
 
 -- 1 to 24 digits, and an exponent of one to three digits and at most 3, or none
 pub record IsProper (s : Spelling) : Type 0 where
