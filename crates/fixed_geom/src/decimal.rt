@@ -5,6 +5,8 @@ ghost use Rattle.fixed_geom.specs.Spelling.{IsAnswer};
 
 use crate::division::round_div;
 use crate::spelling::parse;
+use std::error::Error;
+use std::fmt;
 
 /// Why a text gives no number.
 #[derive(Clone, Copy, Debug, PartialEq, Eq)]
@@ -14,6 +16,17 @@ pub enum BadNumber {
     /// The text is a decimal, and the whole number nearest to it passes `10^18` either way.
     Range,
 }
+
+impl fmt::Display for BadNumber {
+    fn fmt<W: fmt::Write>(&self, f: &mut fmt::Formatter<W>) -> fmt::Result {
+        match self {
+            BadNumber::Grammar => write!(f, "the text is no decimal"),
+            BadNumber::Range => write!(f, "the decimal is too large"),
+        }
+    }
+}
+
+impl Error for BadNumber {}
 
 /// The whole number nearest to the value of a decimal times the scale, the greater one where two
 /// are equally near. The scale is from 1 to `2^30`.

@@ -11,6 +11,8 @@ use crate::products::{
     along, are_nearly_orthogonal, is_nearly_unit, is_right_handed, moved, reach, way, whole,
 };
 use crate::vector::Vec3;
+use std::error::Error;
+use std::fmt;
 use std::marker::Model;
 
 /// The largest size of an entry: `2^30 + 2^17`.
@@ -35,6 +37,20 @@ pub enum BadPose {
     /// differs from `2^60` times the identity by more than `2^48`, or the determinant is not positive.
     NotRotation,
 }
+
+impl fmt::Display for BadPose {
+    fn fmt<W: fmt::Write>(&self, f: &mut fmt::Formatter<W>) -> fmt::Result {
+        match self {
+            BadPose::Range => write!(
+                f,
+                "an entry or a coordinate of the translation is out of its range"
+            ),
+            BadPose::NotRotation => write!(f, "the entries are no rotation"),
+        }
+    }
+}
+
+impl Error for BadPose {}
 
 /// A pose that passed the pose test. It takes camera points to world points.
 #[derive(Clone, Copy, Debug, PartialEq, Eq)]
