@@ -92,7 +92,7 @@ left_within u a b c v small =
 abbrev raised : (t a b c v : Vec3) → Vec3
 raised t a b c v = vec (t.x +ℤ floor_div (dot (vec a.x b.x c.x) v) unit) (t.y +ℤ floor_div (dot (vec a.y b.y c.y) v) unit) (t.z +ℤ floor_div (dot (vec a.z b.z c.z) v) unit)
 
--- the form of a world point, times the unit
+-- a scaled camera coordinate of a world point, times the unit
 cam_q30_axis_raised : (u t a b c v : Vec3) → unit *ℤ cam_q30_axis u t (raised t a b c v) ≡ ((dot u a *ℤ v.x) +ℤ (dot u b *ℤ v.y) +ℤ (dot u c *ℤ v.z)) -ℤ left_of u a b c v
 cam_q30_axis_raised u t a b c v =
     let x = dot (vec a.x b.x c.x) v in
@@ -111,7 +111,7 @@ near_three n a b c x y z p q r u v w e = added (n *ℤ a) (n *ℤ b) (n *ℤ c) 
     added : (a b c s x y z p q r : ℤ) → IsWithin a (x -ℤ p) → IsWithin b (y -ℤ q) → IsWithin c (z -ℤ r) → s ≡ a +ℤ b +ℤ c → IsWithin s ((x +ℤ y +ℤ z) -ℤ (p +ℤ q +ℤ r))
     added a b c s x y z p q r u v w e = record { low = omega (arith, ints); high = omega (arith, ints) }
 
--- the last step, over plain numbers: n the form, c its floor, g the products' sum, v the coordinate, l what is left, m the sum of the bounds, q its floor by 1024
+-- the last step, over plain numbers: n the scaled camera coordinate, c its floor, g the products' sum, v the coordinate, l what is left, m the sum of the bounds, q its floor by 1024
 back : (n c g v l m q : ℤ) → unit *ℤ n ≡ g -ℤ l → IsFloor n unit c → IsWithin (nearness *ℤ m) (g -ℤ (unit_squared *ℤ v)) → IsWithin (pos 3 *ℤ (entry_bound *ℤ unit)) l → IsFloor m (pos 1024) q → IsWithin (q +ℤ pos 8) (c -ℤ v)
 back n c g v l m q e f w k d = record {
   low = omega (arith, ints, f.below, f.above, d.below, d.above, w.low, w.high, k.low, k.high);
