@@ -1,4 +1,4 @@
--- Whole numbers of the opening test as 64 bits hold them.
+-- The numbers of the opening test, as the machine reads them in 64 bits.
 use Rattle.std.proofs.Common.{◌≡◌, ◌∙◌, ap, arith, refl, rules, Bool, cond, Ok, Err}
 use Rattle.std.specs.Prelude.{ℤ, pos, neg_ℤ, ◌+ℤ◌, ◌*ℤ◌, ◌≤ℤ◌, ◌&&◌, int_le, unsigned_abs, Result, ⊤}
 use Rattle.std.specs.Int.{int_max}
@@ -11,7 +11,7 @@ use Rattle.camera.specs.declared.camera.BadCamera.TheVariants.{Reach, Sphere}
 use Rattle.camera.specs.Cameras.{HasRanges, has_reach, fits_sphere, max_depth, reach_axis, reach_x, reach_y}
 use Rattle.camera.proofs.Readings.{read, fields_read}
 
--- a number well within 64 bits is held as it is
+-- a number within 2^60 is read as it is
 pub same64 : (z : ℤ) → (neg_ℤ (pos 1152921504606846976)) ≤ℤ z → z ≤ℤ pos 1152921504606846976 → to_z w64 (of_z w64 z) ≡ z
 same64 z low high = omega (arith, ints)
 

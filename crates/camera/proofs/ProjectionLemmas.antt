@@ -26,9 +26,9 @@ pixel_is f c x z h =
     let d : pos 1 ≤ℤ (pos 65536 *ℤ z) = omega (arith, ints) in
     sym (floor_div_is a (pos 65536 *ℤ z) (floor_div q z) d (floor_nest a (pos 65536) z q (floor_div q z) one h (floor_is a (pos 65536) one) (floor_is q z h)))
 
--- what a test of a range tells
-pub within_tells : (low high z : ℤ) → IsTrue (within low high z) → (low ≤ℤ z) × (z ≤ℤ high)
-within_tells low high z t = search rules
+-- a test of a range, and its two inequalities
+pub within_parts : (low high z : ℤ) → IsTrue (within low high z) → (low ≤ℤ z) × (z ≤ℤ high)
+within_parts low high z t = search rules
 
 pub within_holds : (low high z : ℤ) → low ≤ℤ z → z ≤ℤ high → IsTrue (within low high z)
 within_holds low high z a b = search rules
@@ -45,7 +45,7 @@ at_most s zq z less zw wz one h k a b e = omega (arith, ints)
 
 -- a quotient by z is from 0 to w - 1 where the dividend is from 0 to w z - 1
 pub across : (s w z : ℤ) → pos 1 ≤ℤ z → within (pos 0) (w *ℤ z -ℤ pos 1) s ≡ within (pos 0) (w -ℤ pos 1) (floor_div s z)
-across s w z h = same_from_decides _ _ (narrow, widen) (within_tells (pos 0) (w -ℤ pos 1) q, λ p. within_holds (pos 0) (w -ℤ pos 1) q p.0 p.1)
+across s w z h = same_from_decides _ _ (narrow, widen) (within_parts (pos 0) (w -ℤ pos 1) q, λ p. within_holds (pos 0) (w -ℤ pos 1) q p.0 p.1)
   where
     q : ℤ
     q = floor_div s z
@@ -54,7 +54,7 @@ across s w z h = same_from_decides _ _ (narrow, widen) (within_tells (pos 0) (w 
     is = floor_is s z h
 
     narrow : IsTrue (within (pos 0) (w *ℤ z -ℤ pos 1) s) → (pos 0 ≤ℤ q) × (q ≤ℤ (w -ℤ pos 1))
-    narrow t = let p = within_tells (pos 0) (w *ℤ z -ℤ pos 1) s t in (floor_above s z q (pos 0) h is (omega (arith, ints)), floor_below s z q (w -ℤ pos 1) h is (below s (z *ℤ (w -ℤ pos 1)) (z *ℤ w) (w *ℤ z) (z *ℤ pos 1) z p.1 (mul_difference z w (pos 1)) (mul_turn z w) (omega (arith, ints))))
+    narrow t = let p = within_parts (pos 0) (w *ℤ z -ℤ pos 1) s t in (floor_above s z q (pos 0) h is (omega (arith, ints)), floor_below s z q (w -ℤ pos 1) h is (below s (z *ℤ (w -ℤ pos 1)) (z *ℤ w) (w *ℤ z) (z *ℤ pos 1) z p.1 (mul_difference z w (pos 1)) (mul_turn z w) (omega (arith, ints))))
 
     widen : (pos 0 ≤ℤ q) × (q ≤ℤ (w -ℤ pos 1)) → IsTrue (within (pos 0) (w *ℤ z -ℤ pos 1) s)
     widen p = within_holds (pos 0) (w *ℤ z -ℤ pos 1) s (at_least s (z *ℤ q) (z *ℤ pos 0) is.below (mul_order z (pos 0) q (omega (arith, ints)) p.0) (omega (arith, ints))) (at_most s (z *ℤ q) z (z *ℤ (w -ℤ pos 1)) (z *ℤ w) (w *ℤ z) (z *ℤ pos 1) is.above (mul_order z q (w -ℤ pos 1) (omega (arith, ints)) p.1) (mul_difference z w (pos 1)) (mul_turn z w) (omega (arith, ints)))
@@ -162,11 +162,11 @@ axis_is f c x z w s a fits is = rw (to_z-of_z w64 s fits, is, a.f_read, a.c_read
 
 -- a quotient that passed its test is at most 2047
 pub quotient_high : (b : Bool) (q w : ℤ) → read w ≡ w → w ≤ℤ pos 2048 → b ≡ within (pos 0) (read w -ℤ pos 1) q → b ≡ true → q ≤ℤ pos 2047
-quotient_high b q w ew h e t = let p = within_tells (pos 0) (read w -ℤ pos 1) q (sym e ∙ t) in omega (arith, ints, p.1, ew)
+quotient_high b q w ew h e t = let p = within_parts (pos 0) (read w -ℤ pos 1) q (sym e ∙ t) in omega (arith, ints, p.1, ew)
 
 -- a coordinate that passed its test is below the size
 pub below_read : (b : Bool) (n : ℕ) (q w : ℤ) → read w ≡ w → pos n ≡ q → b ≡ within (pos 0) (read w -ℤ pos 1) q → b ≡ true → pos n <ℤ w
-below_read b n q w ew is e t = let p = within_tells (pos 0) (read w -ℤ pos 1) q (sym e ∙ t) in omega (arith, ints, p.1, ew)
+below_read b n q w ew is e t = let p = within_parts (pos 0) (read w -ℤ pos 1) q (sym e ∙ t) in omega (arith, ints, p.1, ew)
 
 front_holds : (z : ℤ) → pos 1 ≤ℤ z → IsTrue (int_le (pos 1) z)
 front_holds z h = search rules

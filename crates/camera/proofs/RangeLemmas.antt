@@ -1,4 +1,4 @@
--- What the ranges of the fields show.
+-- The tests of the fields hold exactly where the fields are in their ranges.
 use Rattle.std.proofs.Common.{◌≡◌, ℕ, ◌+◌, List, [], ◌∷◌, Bool, true, false, Option, Some, None, refl, take, drop, arith}
 use Rattle.std.specs.Prelude.{ℤ, pos, int_le, ◌*ℤ◌, ◌≤ℤ◌}
 use Rattle.std.proofs.lemmas.Int.{ints}
@@ -76,7 +76,7 @@ has_ranges k h =
       centre_high = centre.1;
     }
 
--- ---- the other way
+-- ---- from the ranges
 
 pub at_most : (a b : ℤ) → a ≤ℤ b → int_le a b ≡ true
 at_most a b h = grind (arith, ints)

@@ -1,6 +1,6 @@
 ghost use Rattle.camera.specs.Laws.{MetIsActive, NearestIsActive, PiercedIsActive, UnseenMeetsNone};
 
-/// No voxel of a block that may not be seen projects inside the image at a depth that a frame may
+/// No voxel of a block that is not visible projects inside the image at a depth that a frame may
 /// touch. The body is empty: the clause is the theorem.
 pub fn unseen_meets_none()
     ensures { UnseenMeetsNone }

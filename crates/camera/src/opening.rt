@@ -49,7 +49,7 @@ pub fn failing_field(f: CameraFields) -> Option<u8>
     first_failing(&tests, 2)
 }
 
-/// Whether a centre lies within so many pixels, in 1/65536 pixel.
+/// Whether a centre, in 1/65536 pixel, lies within `size` pixels.
 fn is_in_pixels(size: i64, c: i64) -> bool
     ensures { result ≡ is_within (pos 0) (pos 65536 *ℤ size) c }
 {

@@ -7,8 +7,8 @@ use crate::camera::CameraFields;
 use crate::shared::{is_between, times};
 use fixed_geom::Vec3;
 
-/// The depth that a raw sample tells, in micrometres. `None` where the sample is 0, or the depth is
-/// nearer or farther than the camera takes.
+/// The depth of a raw sample, in micrometres. `None` where the sample is 0, or the depth is
+/// below `near` or above `far`.
 pub fn depth(camera: &CameraFields, raw: u16) -> Option<i64>
     requires { HasRanges camera.now }
     ensures { result ≡ depth_of camera.now raw }
@@ -20,7 +20,7 @@ pub fn depth(camera: &CameraFields, raw: u16) -> Option<i64>
     is_between(camera.near, camera.far, depth).then_some(depth)
 }
 
-/// The pixel (column, row) that a camera point projects to. `None` where the point is not before the
+/// The pixel (column, row) that a camera point projects to. `None` where the point is not in front of the
 /// camera, or the pixel nearest to it is not one of the image's.
 pub fn project(camera: &CameraFields, point: Vec3) -> Option<(u32, u32)>
     requires camera { HasRanges camera.now }

@@ -5,7 +5,7 @@ ghost use Rattle.camera.specs.Cameras.{HasRanges, is_in_sphere as is_in_sphere_o
 use crate::camera::CameraFields;
 use fixed_geom::Vec3;
 
-/// Whether a camera point lies in the sphere round the point at the depth `centre` on the axis.
+/// Whether a camera point lies in the active sphere: its centre is the point at the depth `centre` on the axis.
 pub fn is_in_sphere(camera: &CameraFields, point: Vec3) -> bool
     requires camera { HasRanges camera.now }
     requires point { AreWithin (pos (2 ^ 42)) point }

@@ -8,7 +8,7 @@ use crate::camera::CameraFields;
 use crate::shared::{left, max_depth, times};
 use fixed_geom::Vec3;
 
-/// Whether a block whose centre has this camera point may be seen. Where it may not, none of its
+/// Whether a block whose centre has this camera point is visible. Where it is not, none of its
 /// voxels projects inside the image at a depth that a frame may touch.
 pub fn may_see(camera: &CameraFields, centre: Vec3) -> bool
     requires camera { HasRanges camera.now }
@@ -18,7 +18,7 @@ pub fn may_see(camera: &CameraFields, centre: Vec3) -> bool
     is_at_depth(camera, centre.z) && is_in_view(camera, centre)
 }
 
-/// Whether depths that a frame may touch are near the depth `z`.
+/// Whether a depth that a frame may touch is within the margin of `z`.
 fn is_at_depth(camera: &CameraFields, z: i64) -> bool
     requires camera { HasRanges camera.now }
     requires z { IsWithin (pos (2 ^ 42)) z }
@@ -28,7 +28,7 @@ fn is_at_depth(camera: &CameraFields, z: i64) -> bool
     1 <= z + margin && z - margin <= max_depth(camera)
 }
 
-/// Whether points between the sides of the image are near this camera point.
+/// Whether a point between the sides of the image is within the margin of this camera point.
 fn is_in_view(camera: &CameraFields, centre: Vec3) -> bool
     requires camera { HasRanges camera.now }
     requires centre { AreWithin (pos (2 ^ 42)) centre }
@@ -39,7 +39,7 @@ fn is_in_view(camera: &CameraFields, centre: Vec3) -> bool
         && is_between_sides(camera.fy, camera.cy, camera.height, margin, centre.y, depth)
 }
 
-/// How far from the camera point of a block's centre the test looks: 14 voxels.
+/// The margin of the test round the camera point of a block's centre: 14 voxels.
 fn margin(camera: &CameraFields) -> i64
     requires { HasRanges camera.now }
     ensures value { result ≡ margin_of camera.now }
@@ -48,7 +48,7 @@ fn margin(camera: &CameraFields) -> i64
     14 * camera.voxel
 }
 
-/// The greatest depth near `z` that a frame may touch.
+/// The greatest depth within the margin of `z` that a frame may touch.
 fn side_depth(camera: &CameraFields, z: i64) -> i64
     requires camera { HasRanges camera.now }
     requires z { IsWithin (pos (2 ^ 42)) z }
@@ -82,7 +82,7 @@ fn right(size: i64, c: i64) -> i64
     0i64.max(65536 * size - c - 32768)
 }
 
-/// Whether a point at `x` is not before the low side of the image, that is the left or the upper one.
+/// Whether a point at `x` is at or past the low side of the image, that is the left or the upper one.
 fn reaches_low_side(f: i64, x: i64, side: i64, depth: i64) -> bool
     requires f { IsWithin (pos (2 ^ 30)) f }
     requires x { IsWithin (pos (2 ^ 43)) x }

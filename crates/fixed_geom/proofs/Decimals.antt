@@ -1,5 +1,5 @@
 -- Powers of ten, and the nearest whole number.
-use Rattle.std.proofs.Common.{◌≡◌, ℕ, suc, ◌+◌, ◌-◌, ◌*◌, ◌^◌, ◌≤◌, ◌<◌, arith, refl, sym, ap, ◌∙◌, add-one, List, length, take, drop, get_or, Option, None, Some, Err, true, false, ltb, length-drop}
+use Rattle.std.proofs.Common.{◌≡◌, ℕ, suc, ◌+◌, ◌-◌, ◌*◌, ◌^◌, ◌≤◌, ◌<◌, arith, refl, sym, ap, add-one, List, length, take, drop, get_or, Option, None, Some, Err, true, false, ltb, length-drop}
 use Rattle.std.proofs.lemmas.Bool.{lt-ltb, le-ltb}
 use Rattle.std.proofs.lemmas.List.{take_all}
 use Rattle.std.proofs.lemmas.List.Sums.{position_or_len_is}

@@ -1,11 +1,11 @@
 -- Quotients that stay between bounds: the mean of an update, the new distance, and the place of a crossing.
 use Rattle.std.proofs.Common.{◌≡◌, ap, ◌∙◌, arith}
-use Rattle.std.specs.Prelude.{ℤ, pos, neg_ℤ, ◌+ℤ◌, ◌-ℤ◌, ◌*ℤ◌, ◌≤ℤ◌, ◌<ℤ◌}
+use Rattle.std.specs.Prelude.{ℤ, pos, neg_ℤ, ◌+ℤ◌, ◌*ℤ◌, ◌≤ℤ◌, ◌<ℤ◌}
 use Rattle.std.specs.Int.{int_min}
 use Rattle.std.proofs.lemmas.Int.{ints, clamps}
 use Rattle.fixed_geom.specs.Division.{floor_div}
 use Rattle.fixed_geom.specs.Vectors.{IsWithin}
-use Rattle.fixed_geom.proofs.Whole.{sum_mul, mul_turn, mul_group, mul_order, mul_neg}
+use Rattle.fixed_geom.proofs.Whole.{sum_mul, mul_group, mul_order, mul_neg}
 use Rattle.fixed_geom.proofs.Floors.{floor_is, floor_above, floor_below}
 
 -- the mean of w times f and once g, to the nearest whole number

@@ -1,11 +1,11 @@
 -- What the tests of a pose mean.
 use Rattle.std.proofs.Common.{◌≡◌, ◌∙◌, ap, refl, rules, sym}
-use Rattle.std.specs.Prelude.{ℤ, pos, Bool, true, false, ◌&&◌, IsTrue, ◌↔◌, int_lt, ◌<ℤ◌, IfOk, Ok, Err}
+use Rattle.std.specs.Prelude.{ℤ, pos, Bool, true, false, ◌&&◌, IsTrue, ◌↔◌, int_lt, ◌<ℤ◌, Ok, Err}
 use Rattle.fixed_geom.specs.declared.vector.Vec3.{Vec3}
 use Rattle.fixed_geom.specs.declared.pose.PoseRows.{PoseRows}
 use Rattle.fixed_geom.specs.declared.pose.BadPose.TheVariants.{Range, NotRotation}
 use Rattle.fixed_geom.specs.Vectors.{vec, IsWithin, AreWithin}
-use Rattle.fixed_geom.specs.Poses.{Pose, HasPoseRange, IsNearRotation, IsPose, of_rows}
+use Rattle.fixed_geom.specs.Poses.{Pose, HasPoseRange, IsNearRotation, of_rows}
 use Rattle.fixed_geom.specs.PoseTest.{accepted, entry, pose_of, is_within, are_within, has_pose_range, is_near_rotation}
 
 both : (a b : Bool) → IsTrue a → IsTrue b → IsTrue (a && b)

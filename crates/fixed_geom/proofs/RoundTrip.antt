@@ -1,6 +1,6 @@
 -- A camera point that is brought to the world and back stays near.
 use Rattle.std.proofs.Common.{◌≡◌, sym, ap, refl, ◌∙◌, arith}
-use Rattle.std.specs.Prelude.{ℤ, pos, ◌+ℤ◌, ◌-ℤ◌, ◌*ℤ◌, unsigned_abs, ◌+◌}
+use Rattle.std.specs.Prelude.{ℤ, pos, ◌+ℤ◌, ◌-ℤ◌, ◌*ℤ◌}
 use Rattle.std.proofs.lemmas.Int.{ints}
 use Rattle.fixed_geom.specs.Division.{IsFloor, floor_div}
 use Rattle.fixed_geom.specs.declared.vector.Vec3.{Vec3}

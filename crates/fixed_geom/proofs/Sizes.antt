@@ -1,11 +1,11 @@
 -- Bounds of the scaled camera coordinates, of the camera point and of the world point of a point within 2^40 on each axis.
-use Rattle.std.proofs.Common.{ℕ, ◌≤◌, arith}
-use Rattle.std.specs.Prelude.{ℤ, pos, ◌+ℤ◌, ◌-ℤ◌, ◌*ℤ◌, unsigned_abs}
+use Rattle.std.proofs.Common.{arith}
+use Rattle.std.specs.Prelude.{ℤ, pos, ◌-ℤ◌, ◌*ℤ◌}
 use Rattle.std.proofs.lemmas.Int.{ints}
 use Rattle.fixed_geom.specs.Division.{IsFloor, floor_div}
 use Rattle.fixed_geom.specs.declared.vector.Vec3.{Vec3}
 use Rattle.fixed_geom.specs.Vectors.{IsWithin, AreWithin, cross, dot, minus}
-use Rattle.fixed_geom.specs.Poses.{Pose, cam_q30_axis, unit, cam_axis, cam, world, entry_bound, translation_bound, HasPoseRange, row_x, row_y, row_z, column_x, column_y, column_z}
+use Rattle.fixed_geom.specs.Poses.{Pose, cam_q30_axis, unit, cam_axis, cam, entry_bound, translation_bound, HasPoseRange, column_x, column_y, column_z}
 use Rattle.fixed_geom.proofs.Floors.{floor_is}
 use Rattle.fixed_geom.proofs.Dots.{within_dot, within_product, unit_positive, columns_small}
 use Rattle.fixed_geom.proofs.Worlds.{floor_within}
