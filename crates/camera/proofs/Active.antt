@@ -19,7 +19,7 @@ use Rattle.camera.proofs.RangeLemmas.{at_most}
 use Rattle.camera.proofs.Inside.{inside_bounds, projects_inside}
 use Rattle.camera.proofs.Offsets.{voxel_step}
 
--- by how much a ray's point may move on its way to the world and back
+-- by how much a ray's point may move when it goes to the world and back
 abbrev pub drift : CameraFields → ℤ
 drift k = floor_div (reach_x k +ℤ reach_y k +ℤ max_depth k) (pos 1024) +ℤ pos 8
 
@@ -95,6 +95,6 @@ met_is_active k m b i r h o below met =
     fewer : (s m : ℤ) → pos 0 ≤ℤ s → (pos 14 *ℤ s) ≤ℤ m → (pos 13 *ℤ s) ≤ℤ m
     fewer s m h k = omega (arith, ints)
 
--- so a block that is not active meets none
+-- so no voxel of a block that is not active is met
 pub inactive_meets_none : (k : CameraFields) (m : Pose) (b : BlockKey) → HasRanges k → FitsSphere k → HasPoseRange m → is_active k m b ≡ false → MeetsNone k m b
 inactive_meets_none k m b r h o fails = λ i below met. false≢true (sym fails ∙ met_is_active k m b i r h o below met)

@@ -13,7 +13,7 @@ use Rattle.voxel_block.specs.declared.key.BlockKey.{BlockKey}
 use Rattle.camera.specs.declared.camera.CameraFields.{CameraFields}
 use Rattle.camera.specs.Grid.{centre_of, block_at, is_key}
 use Rattle.camera.specs.Cameras.{within, HasRanges, HasReach, FitsSphere, max_depth, reach_x, reach_y, opening_margin, ray, is_active}
-use Rattle.camera.specs.Visibility.{IsPiercedOn, IsPiercedAt, IsNearBlock, sample_of}
+use Rattle.camera.specs.Visibility.{IsPiercedAxis, IsPiercedAt, IsInReach, IsNearBlock, sample_of}
 use Rattle.camera.proofs.RangeLemmas.{between, is_between}
 use Rattle.camera.proofs.RayLemmas.{ray_world}
 use Rattle.camera.proofs.Keys.{key_holds}
@@ -43,14 +43,14 @@ border_times s b q =
     one s = omega (arith, ints)
 
 -- a pierced block's centre is within 4 s of the segment's point, times q
-centre_off : (s p q a e b : ℤ) → IsPiercedOn s p q a e b → IsWithin (pos 4 *ℤ (s *ℤ q)) (q *ℤ ((pos 8 *ℤ b +ℤ pos 4) *ℤ s) -ℤ along p q a e)
+centre_off : (s p q a e b : ℤ) → IsPiercedAxis s p q a e b → IsWithin (pos 4 *ℤ (s *ℤ q)) (q *ℤ ((pos 8 *ℤ b +ℤ pos 4) *ℤ s) -ℤ along p q a e)
 centre_off s p q a e b i = plain (q *ℤ ((pos 8 *ℤ b +ℤ pos 4) *ℤ s)) ((pos 8 *ℤ s *ℤ b) *ℤ q) ((pos 8 *ℤ s *ℤ (b +ℤ pos 1)) *ℤ q) (s *ℤ q) (along p q a e) (centre_times s b q) (border_times s b q) i.low i.high
   where
     plain : (c l h t n : ℤ) → c ≡ l +ℤ pos 4 *ℤ t → h ≡ l +ℤ pos 8 *ℤ t → l ≤ℤ n → n <ℤ h → IsWithin (pos 4 *ℤ t) (c -ℤ n)
     plain c l h t n a b i j = record { low = omega (arith, ints); high = omega (arith, ints) }
 
 -- the block of a sampled point is pierced: the point k steps of n along the segment, each coordinate by floor
-pub sampled_is_pierced : (s k n a e f b : ℤ) → pos 1 ≤ℤ n → IsFloor (k *ℤ (e -ℤ a)) n f → IsFloor (a +ℤ f) (pos 8 *ℤ s) b → IsPiercedOn s k n a e b
+pub sampled_is_pierced : (s k n a e f b : ℤ) → pos 1 ≤ℤ n → IsFloor (k *ℤ (e -ℤ a)) n f → IsFloor (a +ℤ f) (pos 8 *ℤ s) b → IsPiercedAxis s k n a e b
 sampled_is_pierced s k n a e f b n1 i j =
     let n0 : pos 0 ≤ℤ n = omega (arith, ints) in
     let low = mul_order n (pos 8 *ℤ s *ℤ b) (a +ℤ f) n0 j.below in
@@ -157,7 +157,7 @@ key_low s b s1 h = by_lt_z b (neg_ℤ (pos 18876))
     plain s x a b c = omega (arith, ints)
 
 -- one axis: the borders of a pierced block, where the ends are within 151006226 of the origin
-borders : (s p q a e b : ℤ) → pos 0 ≤ℤ p → p ≤ℤ q → pos 1 ≤ℤ q → IsWithin (pos 151006226) a → IsWithin (pos 151006226) e → IsPiercedOn s p q a e b → ((neg_ℤ (pos 151006226)) ≤ℤ (pos 8 *ℤ s *ℤ (b +ℤ pos 1))) × ((pos 8 *ℤ s *ℤ b) ≤ℤ pos 151006226)
+borders : (s p q a e b : ℤ) → pos 0 ≤ℤ p → p ≤ℤ q → pos 1 ≤ℤ q → IsWithin (pos 151006226) a → IsWithin (pos 151006226) e → IsPiercedAxis s p q a e b → ((neg_ℤ (pos 151006226)) ≤ℤ (pos 8 *ℤ s *ℤ (b +ℤ pos 1))) × ((pos 8 *ℤ s *ℤ b) ≤ℤ pos 151006226)
 borders s p q a e b p0 pq q1 ia ie i =
     let n = (q -ℤ p) *ℤ a +ℤ p *ℤ e in
     let low = lower_sum p q a e (neg_ℤ (pos 151006226)) p0 pq ia.low ie.low in
@@ -172,19 +172,19 @@ borders s p q a e b p0 pq q1 ia ie i =
     high_plain : (u n o l l' q : ℤ) → n ≤ℤ u → o ≡ n → l ≤ℤ o → l ≡ l' → pos 1 ≤ℤ q → l' <ℤ (u +ℤ q)
     high_plain u n o l l' q a b c d e = omega (arith, ints)
 
--- one axis of a key
-on_axis : (s p q a e b : ℤ) → pos 1000 ≤ℤ s → pos 0 ≤ℤ p → p ≤ℤ q → pos 1 ≤ℤ q → IsWithin (pos 151006226) a → IsWithin (pos 151006226) e → IsPiercedOn s p q a e b → IsBetween (neg_ℤ (pos 18876)) (pos 18875) b
-on_axis s p q a e b s1 p0 pq q1 ia ie i =
+-- one coordinate of a pierced block
+block_axis_between : (s p q a e b : ℤ) → pos 1000 ≤ℤ s → pos 0 ≤ℤ p → p ≤ℤ q → pos 1 ≤ℤ q → IsWithin (pos 151006226) a → IsWithin (pos 151006226) e → IsPiercedAxis s p q a e b → IsBetween (neg_ℤ (pos 18876)) (pos 18875) b
+block_axis_between s p q a e b s1 p0 pq q1 ia ie i =
     let t = borders s p q a e b p0 pq q1 ia ie i in
     record { low = key_low s b s1 t.0; high = key_high s b s1 t.1 }
 
--- the point of a pierced block's lowest corner is within 151806226 of the origin, on one axis
-pub pierced_corner : (s p q a e b : ℤ) → pos 0 ≤ℤ s → s ≤ℤ pos 100000 → pos 0 ≤ℤ p → p ≤ℤ q → pos 1 ≤ℤ q → IsWithin (pos 151006226) a → IsWithin (pos 151006226) e → IsPiercedOn s p q a e b → IsWithin (pos 151806226) (pos 8 *ℤ s *ℤ b)
+-- the lowest corner of a pierced block is within 151806226 of the origin, on one axis
+pierced_corner : (s p q a e b : ℤ) → pos 0 ≤ℤ s → s ≤ℤ pos 100000 → pos 0 ≤ℤ p → p ≤ℤ q → pos 1 ≤ℤ q → IsWithin (pos 151006226) a → IsWithin (pos 151006226) e → IsPiercedAxis s p q a e b → IsWithin (pos 1073741824) (pos 8 *ℤ s *ℤ b)
 pierced_corner s p q a e b s0 s1 p0 pq q1 ia ie i =
     let t = borders s p q a e b p0 pq q1 ia ie i in
     plain s (pos 8 *ℤ s *ℤ b) (pos 8 *ℤ s *ℤ (b +ℤ pos 1)) (pos 8 *ℤ s *ℤ pos 1) (mul_sum (pos 8 *ℤ s) b (pos 1)) (omega (arith, ints)) s0 s1 t.0 t.1
   where
-    plain : (s x y z : ℤ) → y ≡ x +ℤ z → z ≡ pos 8 *ℤ s → pos 0 ≤ℤ s → s ≤ℤ pos 100000 → (neg_ℤ (pos 151006226)) ≤ℤ y → x ≤ℤ pos 151006226 → IsWithin (pos 151806226) x
+    plain : (s x y z : ℤ) → y ≡ x +ℤ z → z ≡ pos 8 *ℤ s → pos 0 ≤ℤ s → s ≤ℤ pos 100000 → (neg_ℤ (pos 151006226)) ≤ℤ y → x ≤ℤ pos 151006226 → IsWithin (pos 1073741824) x
     plain s x y z e f a b c d = record { low = omega (arith, ints); high = omega (arith, ints) }
 
 within_key : (z : ℤ) → IsBetween (neg_ℤ (pos 18876)) (pos 18875) z → IsTrue (within (neg_ℤ (pos 18876)) (pos 18875) z)
@@ -193,9 +193,9 @@ within_key z i = is_between (neg_ℤ (pos 18876)) (pos 18875) z i.low i.high
 -- a block that a segment between two points near the origin pierces has small coordinates
 pub pierced_is_near : (s p q : ℤ) (a e : Vec3) (b : BlockKey) → pos 1000 ≤ℤ s → AreWithin (pos 151006226) a → AreWithin (pos 151006226) e → IsPiercedAt s p q a e b → IsNearBlock b
 pierced_is_near s p q a e b s1 ia ie i = record {
-  x = within_key b.x (on_axis s p q a.x e.x b.x s1 i.start i.finish i.divisor ia.x ie.x i.x);
-  y = within_key b.y (on_axis s p q a.y e.y b.y s1 i.start i.finish i.divisor ia.y ie.y i.y);
-  z = within_key b.z (on_axis s p q a.z e.z b.z s1 i.start i.finish i.divisor ia.z ie.z i.z);
+  x = within_key b.x (block_axis_between s p q a.x e.x b.x s1 i.start i.finish i.divisor ia.x ie.x i.x);
+  y = within_key b.y (block_axis_between s p q a.y e.y b.y s1 i.start i.finish i.divisor ia.y ie.y i.y);
+  z = within_key b.z (block_axis_between s p q a.z e.z b.z s1 i.start i.finish i.divisor ia.z ie.z i.z);
 }
 
 -- such coordinates fit 16 bits
@@ -218,6 +218,22 @@ pub band_is_near : (k : CameraFields) (m : Pose) (u v y z p q : ℤ) (b : BlockK
 band_is_near k m u v y z p q b r h o i y1 yd z1 zd at =
     pierced_is_near k.voxel p q (world m (ray k u v y)) (world m (ray k u v z)) b r.voxel (ray_world k m u v y r h o i.u_low i.u_high i.v_low i.v_high y1 yd) (ray_world k m u v z r h o i.u_low i.u_high i.v_low i.v_high z1 zd) at
 
+-- and its lowest corner is within 2^30 of the origin on each axis
+pub band_is_in_reach : (k : CameraFields) (m : Pose) (u v y z p q : ℤ) (b : BlockKey) → HasRanges k → HasReach k → HasPoseRange m → IsPixel k u v → pos 1 ≤ℤ y → y ≤ℤ max_depth k → pos 1 ≤ℤ z → z ≤ℤ max_depth k
+    → IsPiercedAt k.voxel p q (world m (ray k u v y)) (world m (ray k u v z)) b → IsInReach k.voxel b
+band_is_in_reach k m u v y z p q b r h o i y1 yd z1 zd at =
+    let s = k.voxel in
+    let a = world m (ray k u v y) in
+    let e = world m (ray k u v z) in
+    let s0 : pos 0 ≤ℤ s = omega (arith, ints, r.voxel) in
+    let ia = ray_world k m u v y r h o i.u_low i.u_high i.v_low i.v_high y1 yd in
+    let ie = ray_world k m u v z r h o i.u_low i.u_high i.v_low i.v_high z1 zd in
+    record {
+      x = pierced_corner s p q a.x e.x b.x s0 r.voxel_high at.start at.finish at.divisor ia.x ie.x at.x;
+      y = pierced_corner s p q a.y e.y b.y s0 r.voxel_high at.start at.finish at.divisor ia.y ie.y at.y;
+      z = pierced_corner s p q a.z e.z b.z s0 r.voxel_high at.start at.finish at.divisor ia.z ie.z at.z;
+    }
+
 -- the block of a sample of a segment is pierced
 pub sample_is_pierced : (s j n : ℤ) (a e : Vec3) → pos 1 ≤ℤ s → pos 0 ≤ℤ j → j ≤ℤ n → pos 1 ≤ℤ n → IsPiercedAt s j n a e (block_at s (sample_of j n a e))
 sample_is_pierced s j n a e s1 j0 jn n1 = record {
@@ -232,5 +248,5 @@ sample_is_pierced s j n a e s1 j0 jn n1 = record {
     size : pos 1 ≤ℤ (pos 8 *ℤ s)
     size = omega (arith, ints)
 
-    axis : (x y : ℤ) → IsPiercedOn s j n x y (floor_div (x +ℤ floor_div (j *ℤ (y -ℤ x)) n) (pos 8 *ℤ s))
+    axis : (x y : ℤ) → IsPiercedAxis s j n x y (floor_div (x +ℤ floor_div (j *ℤ (y -ℤ x)) n) (pos 8 *ℤ s))
     axis x y = sampled_is_pierced s j n x y (floor_div (j *ℤ (y -ℤ x)) n) (floor_div (x +ℤ floor_div (j *ℤ (y -ℤ x)) n) (pos 8 *ℤ s)) n1 (floor_is (j *ℤ (y -ℤ x)) n n1) (floor_is (x +ℤ floor_div (j *ℤ (y -ℤ x)) n) (pos 8 *ℤ s) size)

@@ -94,7 +94,7 @@ pub whole_camera : (k : CameraFields) → IsCamera k → camera_of k ≡ Ok k
 unfolding outcome
 whole_camera k c = camera_is k ∙ rw (from_ranges k c.ranges, reach_tested k c.reach, sphere_tested k c.sphere) refl
 
--- ---- what the tests, as they are run, tell
+-- ---- the answer, by the tests as they are run
 
 pub refused_field : (k : CameraFields) (n : ℕ) → Some n ≡ first_failing 2 (camera_tests k) → Err (Field n) ≡ camera_of k
 refused_field k n is = sym ((field_refused k n).1 (sym is))

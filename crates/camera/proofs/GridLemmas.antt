@@ -48,7 +48,7 @@ coordinate_within r b place size fits below s e = plain r ((pos 8 *ℤ b +ℤ po
     plain : (r z : ℤ) → r ≡ z → IsWithin (pos 26215100000) z → IsWithin (pos 1099511627776) r
     plain r z e w = record { low = omega (arith, ints); high = omega (arith, ints) }
 
--- a coordinate that was handed on
+-- a coordinate that was read
 pub handed : (r b : ℤ) (place : ℕ) (size : ℤ) → IsWithin (pos 1099511627776) r → SFits w16 b → SFits w64 size → r ≡ (pos 8 *ℤ to_z w16 (of_z w16 b) +ℤ pos place) *ℤ read size → read r ≡ (pos 8 *ℤ b +ℤ pos place) *ℤ size
 handed r b place size w fits sized e =
     let one : read r ≡ r = omega (arith, ints) in

@@ -1,4 +1,4 @@
--- What it gives that a camera point projects inside: bounds by the image's sides, and by the opening test's reach.
+-- A camera point that projects inside has bounds by the image's sides, and by the opening test's reach.
 use Rattle.std.proofs.Common.{ℕ, Bool, true, false, Some, None, cond, ◌≡◌, ap, refl, ◌∙◌, arith}
 use Rattle.std.specs.Prelude.{ℤ, pos, neg_ℤ, ◌+ℤ◌, ◌-ℤ◌, ◌*ℤ◌, ◌≤ℤ◌, ◌<ℤ◌, int_le, IsTrue}
 use Rattle.std.proofs.lemmas.Int.{ints}
@@ -79,7 +79,7 @@ inside_within f c w x z top f1 c0 z1 le u v =
     ended : (x q : ℤ) → x ≤ℤ q → (neg_ℤ x) ≤ℤ q → IsWithin ((q +ℤ pos 1) -ℤ pos 1) x
     ended x q h k = record { low = omega (arith, ints); high = omega (arith, ints) }
 
--- what the tests tell of a point that projects inside
+-- the parts of the test of a point that projects inside
 pub record ProjectsInside (k : CameraFields) (p : Vec3) : Type 0 where
   pub front : pos 1 ≤ℤ p.z
   pub u_low : pos 0 ≤ℤ pixel_axis k.fx k.cx p.x p.z

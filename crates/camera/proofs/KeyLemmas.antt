@@ -64,18 +64,18 @@ nearest_floor d p s fits w low high is =
 
 -- ---- a voxel, by its block and its index
 
--- a voxel coordinate is that of its block and how far it lies from there
+-- a voxel coordinate is 8 times that of its block and its offset there
 parted : (c q : ℤ) → IsFloor c (pos 8) q → (pos 8 *ℤ q +ℤ pos (unsigned_abs (c -ℤ pos 8 *ℤ q)) ≡ c) × (unsigned_abs (c -ℤ pos 8 *ℤ q) < 8)
 parted c q f = (omega (arith, ints, f.below, f.above), omega (arith, ints, f.below, f.above))
 
-on_axis : (c : ℤ) → (pos 8 *ℤ floor_div c (pos 8) +ℤ pos (offset_axis c) ≡ c) × (offset_axis c < 8)
-on_axis c = parted c (floor_div c (pos 8)) (floor_is c (pos 8) (omega (arith, ints)))
+voxel_axis_parts : (c : ℤ) → (pos 8 *ℤ floor_div c (pos 8) +ℤ pos (offset_axis c) ≡ c) × (offset_axis c < 8)
+voxel_axis_parts c = parted c (floor_div c (pos 8)) (floor_is c (pos 8) (omega (arith, ints)))
 
 pub voxel_back : (v : Vec3) → voxel_coordinates (block_of_voxel v) (index_of_voxel v) ≡ v
 voxel_back v =
-    let x = on_axis v.x in
-    let y = on_axis v.y in
-    let z = on_axis v.z in
+    let x = voxel_axis_parts v.x in
+    let y = voxel_axis_parts v.y in
+    let z = voxel_axis_parts v.z in
     let e = offset_of-index_of (offset_axis v.x) (offset_axis v.y) (offset_axis v.z) x.1 y.1 in
     let is_x : (voxel_coordinates (block_of_voxel v) (index_of_voxel v)).x ≡ v.x = ap (λ (o : Offset). pos 8 *ℤ floor_div v.x (pos 8) +ℤ pos o.x) e ∙ x.0 in
     let is_y : (voxel_coordinates (block_of_voxel v) (index_of_voxel v)).y ≡ v.y = ap (λ (o : Offset). pos 8 *ℤ floor_div v.y (pos 8) +ℤ pos o.y) e ∙ y.0 in

@@ -12,17 +12,17 @@ use Rattle.voxel_block.specs.Blocks.{offset_of}
 use Rattle.voxel_block.proofs.Blocks.{offset_inside}
 use Rattle.camera.specs.Grid.{point_of, centre_of}
 
--- a place in a block, on one axis
+-- an offset in a block, on one axis
 pub record IsLocal (x : ℤ) : Type 0 where
   pub low : pos 0 ≤ℤ x
   pub high : x ≤ℤ pos 7
 
-local_place : (n : ℕ) → n < 8 → IsLocal (pos n)
-local_place n h = record { low = omega (arith, ints); high = omega (arith, ints) }
+local_offset : (n : ℕ) → n < 8 → IsLocal (pos n)
+local_offset n h = record { low = omega (arith, ints); high = omega (arith, ints) }
 
--- a voxel's place less its block's centre, on one axis
-between : (s b x : ℤ) → (pos 8 *ℤ b +ℤ x) *ℤ s -ℤ (pos 8 *ℤ b +ℤ pos 4) *ℤ s ≡ (x -ℤ pos 4) *ℤ s
-between s b x = sym (difference_mul (pos 8 *ℤ b +ℤ x) (pos 8 *ℤ b +ℤ pos 4) s) ∙ ap (λ (z : ℤ). z *ℤ s) (less (pos 8 *ℤ b) x)
+-- a voxel's point less its block's centre, on one axis
+offset_axis_is : (s b x : ℤ) → (pos 8 *ℤ b +ℤ x) *ℤ s -ℤ (pos 8 *ℤ b +ℤ pos 4) *ℤ s ≡ (x -ℤ pos 4) *ℤ s
+offset_axis_is s b x = sym (difference_mul (pos 8 *ℤ b +ℤ x) (pos 8 *ℤ b +ℤ pos 4) s) ∙ ap (λ (z : ℤ). z *ℤ s) (less (pos 8 *ℤ b) x)
   where
     less : (n x : ℤ) → (n +ℤ x) -ℤ (n +ℤ pos 4) ≡ x -ℤ pos 4
     less n x = omega (arith, ints)
@@ -33,8 +33,8 @@ moved n x y e w = record { low = omega (arith, ints); high = omega (arith, ints)
 itself : (s : ℤ) → pos 0 ≤ℤ s → IsWithin s s
 itself s h = record { low = omega (arith, ints); high = omega (arith, ints) }
 
-pub on_axis : (s b x : ℤ) → pos 0 ≤ℤ s → IsLocal x → IsWithin (pos 4 *ℤ s) ((pos 8 *ℤ b +ℤ x) *ℤ s -ℤ (pos 8 *ℤ b +ℤ pos 4) *ℤ s)
-on_axis s b x h o = moved (pos 4 *ℤ s) ((x -ℤ pos 4) *ℤ s) ((pos 8 *ℤ b +ℤ x) *ℤ s -ℤ (pos 8 *ℤ b +ℤ pos 4) *ℤ s) (between s b x) (within_product (pos 4) s (x -ℤ pos 4) s (four x o) (itself s h))
+pub offset_axis_within : (s b x : ℤ) → pos 0 ≤ℤ s → IsLocal x → IsWithin (pos 4 *ℤ s) ((pos 8 *ℤ b +ℤ x) *ℤ s -ℤ (pos 8 *ℤ b +ℤ pos 4) *ℤ s)
+offset_axis_within s b x h o = moved (pos 4 *ℤ s) ((x -ℤ pos 4) *ℤ s) ((pos 8 *ℤ b +ℤ x) *ℤ s -ℤ (pos 8 *ℤ b +ℤ pos 4) *ℤ s) (offset_axis_is s b x) (within_product (pos 4) s (x -ℤ pos 4) s (four x o) (itself s h))
   where
     four : (x : ℤ) → IsLocal x → IsWithin (pos 4) (x -ℤ pos 4)
     four x o = record { low = omega (arith, ints); high = omega (arith, ints) }
@@ -45,9 +45,9 @@ voxel_and_centre s b i h below =
     let o = offset_of i in
     let inside = offset_inside i below in
     record {
-      x = on_axis s b.x (pos o.x) h (local_place o.x inside.x);
-      y = on_axis s b.y (pos o.y) h (local_place o.y inside.y);
-      z = on_axis s b.z (pos o.z) h (local_place o.z inside.z);
+      x = offset_axis_within s b.x (pos o.x) h (local_offset o.x inside.x);
+      y = offset_axis_within s b.y (pos o.y) h (local_offset o.y inside.y);
+      z = offset_axis_within s b.z (pos o.z) h (local_offset o.z inside.z);
     }
 
 -- the camera points of a voxel and of its block's centre are within 13 s

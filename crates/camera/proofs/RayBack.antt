@@ -1,4 +1,4 @@
--- The point of a pixel's ray comes back from the world near to where it was.
+-- The point of a pixel's ray comes back from the world near its old position.
 use Rattle.std.proofs.Common.{ℕ, arith}
 use Rattle.std.specs.Prelude.{ℤ, pos, ◌≤ℤ◌, ◌<ℤ◌}
 use Rattle.std.proofs.lemmas.Int.{ints}

@@ -11,7 +11,7 @@ use Rattle.fixed_geom.proofs.Floors.{floor_is, floor_above, floor_below}
 use Rattle.fixed_geom.proofs.Worlds.{world_bound}
 use Rattle.camera.specs.declared.camera.CameraFields.{CameraFields}
 use Rattle.camera.specs.Cameras.{HasRanges, HasReach, left, right, half, max_depth, reach_axis, reach_x, reach_y, ray_axis, ray, depth_of, within}
-use Rattle.camera.proofs.ProjectionLemmas.{within_tells}
+use Rattle.camera.proofs.ProjectionLemmas.{within_parts}
 
 -- a factor that is at most m, at a depth of at most top, gives at most top m
 pub at_depth : (k m z top : ℤ) → k ≤ℤ m → pos 0 ≤ℤ m → pos 0 ≤ℤ z → z ≤ℤ top → (k *ℤ z) ≤ℤ (top *ℤ m)
@@ -105,7 +105,7 @@ pub record IsShown (k : CameraFields) (d : ℤ) : Type 0 where
   pub far : d ≤ℤ k.far
   pub far_high : d ≤ℤ pos 16000000
 
--- a depth that a sample tells is one
+-- the depth of a sample is one
 pub is_shown : (k : CameraFields) (raw : ℕ) (d : ℤ) → HasRanges k → depth_of k raw ≡ Some d → IsShown k d
 is_shown k raw d r e = by (raw == 0) (within k.near k.far (pos raw *ℤ k.unit)) refl e
   where
@@ -114,7 +114,7 @@ is_shown k raw d r e = by (raw == 0) (within k.near k.far (pos raw *ℤ k.unit))
     by false false t e = absurd (cc)
     by false true t e =
         let same : pos raw *ℤ k.unit ≡ d = cc in
-        let z = within_tells k.near k.far (pos raw *ℤ k.unit) t in
+        let z = within_parts k.near k.far (pos raw *ℤ k.unit) t in
         let near : k.near ≤ℤ d = subst (λ (x : ℤ). k.near ≤ℤ x) same z.0 in
         let far : d ≤ℤ k.far = subst (λ (x : ℤ). x ≤ℤ k.far) same z.1 in
         record { near = omega (arith, ints, r.near); far = far; far_high = omega (arith, ints, r.far_high) }

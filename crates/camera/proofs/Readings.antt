@@ -4,7 +4,8 @@ use Rattle.std.specs.Prelude.{ℤ, pos, negsuc, ◌+ℤ◌, ◌≤ℤ◌, unsign
 use Rattle.std.proofs.lemmas.Int.{ints, to_z-of_z, fits_signed_from_abs}
 use mir.Val.{SFits, to_z, of_z}
 use mir.Syntax.{w64, w128}
-use Rattle.fixed_geom.specs.Vectors.{IsWithin}
+use Rattle.fixed_geom.specs.declared.vector.Vec3.{Vec3}
+use Rattle.fixed_geom.specs.Vectors.{AreWithin, IsWithin}
 use Rattle.camera.specs.declared.camera.CameraFields.{CameraFields}
 use Rattle.camera.specs.Cameras.{HasRanges}
 
@@ -31,6 +32,9 @@ fits128 z h = fits_signed_from_abs w128 z (omega arith)
 pub wider : (m n : ℤ) (z : ℤ) → m ≤ℤ n → IsWithin m z → IsWithin n z
 wider m n z h w = record { low = omega (arith, ints); high = omega (arith, ints) }
 
+pub all_wider : (m n : ℤ) (v : Vec3) → m ≤ℤ n → AreWithin m v → AreWithin n v
+all_wider m n v h w = record { x = wider m n v.x h w.x; y = wider m n v.y h w.y; z = wider m n v.z h w.z }
+
 -- a number of 128 bits that is a bounded number fits 64 bits, and stays itself
 pub narrow_fits : (r q : ℤ) → r ≡ q → IsWithin (pos 1152921504606846976) q → SFits w64 (to_z w128 (of_z w128 r))
 narrow_fits r q e w =
@@ -46,9 +50,9 @@ narrow_is r q e w =
 pub sum_fits : (p q : ℤ) → unsigned_abs p ≤ 2 ^ 100 → unsigned_abs q ≤ 2 ^ 100 → SFits w128 (to_z w128 (of_z w128 p) +ℤ to_z w128 (of_z w128 q))
 sum_fits p q h i = fits_signed_from_abs w128 _ (omega (arith, ints))
 
--- a number between two small ones stays itself in 64 bits
-between : (low high z : ℤ) → low ≤ℤ z → z ≤ℤ high → pos 0 ≤ℤ low → high ≤ℤ pos 1152921504606846976 → to_z w64 (of_z w64 z) ≡ z
-between low high z a b c d = same64 z (record { low = omega (arith, ints); high = omega (arith, ints) })
+-- a number read_between two small ones stays itself in 64 bits
+read_between : (low high z : ℤ) → low ≤ℤ z → z ≤ℤ high → pos 0 ≤ℤ low → high ≤ℤ pos 1152921504606846976 → to_z w64 (of_z w64 z) ≡ z
+read_between low high z a b c d = same64 z (record { low = omega (arith, ints); high = omega (arith, ints) })
 
 -- the fields of a camera, as they are read
 pub record IsRead (k : CameraFields) : Type 0 where
@@ -68,19 +72,19 @@ pub record IsRead (k : CameraFields) : Type 0 where
 
 pub fields_read : (k : CameraFields) → HasRanges k → IsRead k
 fields_read k r = record {
-  width = between (pos 1) (pos 2048) k.width r.width r.width_high (omega (arith, ints)) (omega (arith, ints));
-  height = between (pos 1) (pos 2048) k.height r.height r.height_high (omega (arith, ints)) (omega (arith, ints));
-  fx = between (pos 1) (pos 1073741824) k.fx r.fx r.fx_high (omega (arith, ints)) (omega (arith, ints));
-  fy = between (pos 1) (pos 1073741824) k.fy r.fy r.fy_high (omega (arith, ints)) (omega (arith, ints));
+  width = read_between (pos 1) (pos 2048) k.width r.width r.width_high (omega (arith, ints)) (omega (arith, ints));
+  height = read_between (pos 1) (pos 2048) k.height r.height r.height_high (omega (arith, ints)) (omega (arith, ints));
+  fx = read_between (pos 1) (pos 1073741824) k.fx r.fx r.fx_high (omega (arith, ints)) (omega (arith, ints));
+  fy = read_between (pos 1) (pos 1073741824) k.fy r.fy r.fy_high (omega (arith, ints)) (omega (arith, ints));
   cx = omega (arith, ints, r.cx, r.cx_high, r.width_high);
   cy = omega (arith, ints, r.cy, r.cy_high, r.height_high);
-  unit = between (pos 1) (pos 100000) k.unit r.unit r.unit_high (omega (arith, ints)) (omega (arith, ints));
+  unit = read_between (pos 1) (pos 100000) k.unit r.unit r.unit_high (omega (arith, ints)) (omega (arith, ints));
   near = omega (arith, ints, r.near, r.far, r.far_high);
   far = omega (arith, ints, r.near, r.far, r.far_high);
-  voxel = between (pos 1000) (pos 100000) k.voxel r.voxel r.voxel_high (omega (arith, ints)) (omega (arith, ints));
+  voxel = read_between (pos 1000) (pos 100000) k.voxel r.voxel r.voxel_high (omega (arith, ints)) (omega (arith, ints));
   mu = omega (arith, ints, r.voxel, r.mu, r.mu_high);
-  radius = between (pos 1) (pos 100000000) k.radius r.radius r.radius_high (omega (arith, ints)) (omega (arith, ints));
-  centre = between (pos 0) (pos 17000000) k.centre r.centre r.centre_high (omega (arith, ints)) (omega (arith, ints));
+  radius = read_between (pos 1) (pos 100000000) k.radius r.radius r.radius_high (omega (arith, ints)) (omega (arith, ints));
+  centre = read_between (pos 0) (pos 17000000) k.centre r.centre r.centre_high (omega (arith, ints)) (omega (arith, ints));
 }
 
 -- a coordinate of a camera point stays itself in 64 bits

@@ -1,4 +1,4 @@
--- A block that may not be seen meets no voxel: where a voxel is met, its block may be seen.
+-- No voxel of a block that is not visible is met: where a voxel is met, its block is visible.
 use Rattle.std.proofs.Common.{◌≡◌, ◌<◌, ℕ, Bool, true, false, refl, sym, ◌∙◌, arith}
 use Rattle.std.specs.Prelude.{ℤ, pos, neg_ℤ, ◌+ℤ◌, ◌-ℤ◌, ◌*ℤ◌, ◌≤ℤ◌, ◌<ℤ◌, ◌&&◌, IsTrue}
 use Rattle.std.specs.Int.{int_max, int_min}
@@ -53,7 +53,7 @@ ordered a b c h k = omega (arith, ints)
 raised : (c : ℤ) → pos 0 ≤ℤ c → pos 0 ≤ℤ (c +ℤ pos 32768)
 raised c h = omega (arith, ints)
 
--- both sides, on one axis: n is how far the test looks
+-- both sides, on one axis: n is the margin
 sides_hold : (f c w n x q z h : ℤ) → pos 1 ≤ℤ f → pos 0 ≤ℤ c → pos 0 ≤ℤ z → (neg_ℤ (left c *ℤ z)) ≤ℤ (f *ℤ x) → (f *ℤ x) <ℤ (right w c *ℤ z) → x ≤ℤ (q +ℤ n) → (q -ℤ n) ≤ℤ x → z ≤ℤ h → IsTrue (is_between_sides f c w n q h)
 sides_hold f c w n x q z h f1 c0 z0 in_left in_right below above deep =
     both_hold _ _
@@ -79,10 +79,10 @@ seen_near k p c r met near =
     let view : IsTrue (is_in_view k c) = both_hold _ _ columns rows in
     both_hold (is_at_depth k c.z) (is_in_view k c) depth view
 
--- where a voxel is met, its block may be seen
+-- where a voxel is met, its block is visible
 pub met_is_seen : (k : CameraFields) (m : Pose) (b : BlockKey) (i : ℕ) → HasRanges k → HasPoseRange m → i < 512 → IsMet k m b i → IsTrue (may_be_seen k m b)
 met_is_seen k m b i r o below met = seen_near k (cam m (point_of k.voxel b i)) (cam m (centre_of k.voxel b)) r met (voxel_step m k.voxel b i o (omega (arith, ints, r.voxel)) below)
 
--- so a block that may not be seen meets none
+-- so no voxel of a block that is not visible is met
 pub unseen_meets_none : (k : CameraFields) (m : Pose) (b : BlockKey) → HasRanges k → HasPoseRange m → may_be_seen k m b ≡ false → MeetsNone k m b
 unseen_meets_none k m b r o fails = λ i below met. false≢true (sym fails ∙ met_is_seen k m b i r o below met)

@@ -30,7 +30,7 @@ offset_within k z r w = rw (offset_is k z r w) (plain z k.centre w r.centre r.ce
     plain : (z c : ℤ) → IsWithin (pos 4398046511104) z → pos 0 ≤ℤ c → c ≤ℤ pos 17000000 → IsWithin (pos 8796093022208) (z -ℤ c)
     plain z c w low high = record { low = omega (arith, ints); high = omega (arith, ints) }
 
--- that offset, as it is handed on
+-- that offset, as it is read
 pub handed_within : (w : ℤ) → IsWithin (pos 8796093022208) w → IsWithin (pos 8796093022208) (read w)
 handed_within w b = record { low = omega (arith, ints); high = omega (arith, ints) }
 

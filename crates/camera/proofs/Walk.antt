@@ -15,15 +15,15 @@ use Rattle.camera.specs.Grid.{centre_of, nearest_axis, nearest_voxel, block_of_v
 use Rattle.camera.specs.Cameras.{HasRanges, HasReach, FitsSphere, max_depth, opening_margin, ray, is_active}
 use Rattle.camera.proofs.RayLemmas.{ray_world}
 use Rattle.camera.proofs.Keys.{key_holds}
-use Rattle.camera.proofs.Offsets.{IsLocal, on_axis}
+use Rattle.camera.proofs.Offsets.{IsLocal, offset_axis_within}
 use Rattle.camera.proofs.Active.{drift, near_reach, opening_margin_large}
 use Rattle.camera.proofs.RayBack.{IsPixel, pixel_bounds, ray_back}
 
--- the place of a voxel coordinate in its block
+-- the offset of a voxel coordinate in its block
 pub local : (n b : ℤ) → IsFloor n (pos 8) b → IsLocal (n -ℤ pos 8 *ℤ b)
 local n b i = record { low = omega (arith, ints, i.below, i.above); high = omega (arith, ints, i.below, i.above) }
 
--- twice the way from the nearest voxel, over plain numbers
+-- twice the offset from the nearest voxel, over plain numbers
 near_voxel : (s p n : ℤ) → IsFloor (pos 2 *ℤ p +ℤ s) (pos 2 *ℤ s) n → IsWithin s (pos 2 *ℤ (p -ℤ n *ℤ s))
 near_voxel s p n i = plain s p ((pos 2 *ℤ s) *ℤ n) (n *ℤ s) (mul_group (pos 2) s n ∙ ap (λ (z : ℤ). pos 2 *ℤ z) (mul_turn s n)) i.below i.above
   where
@@ -38,9 +38,9 @@ half_way s p s1 =
     let x = n -ℤ pos 8 *ℤ b in
     let is = floor_is n (pos 8) (omega (arith, ints)) in
     let near = near_voxel s p n (floor_is (pos 2 *ℤ p +ℤ s) (pos 2 *ℤ s) (omega (arith, ints))) in
-    let place : (pos 8 *ℤ b +ℤ x) *ℤ s ≡ n *ℤ s = ap (λ (z : ℤ). z *ℤ s) (back (pos 8 *ℤ b) n) in
-    let inner = on_axis s b x (omega (arith, ints)) (local n b is) in
-    ended s p (n *ℤ s) ((pos 8 *ℤ b +ℤ x) *ℤ s) ((pos 8 *ℤ b +ℤ pos 4) *ℤ s) (floor_div (pos 9 *ℤ s) (pos 2)) place near inner (floor_is (pos 9 *ℤ s) (pos 2) (omega (arith, ints)))
+    let voxel : (pos 8 *ℤ b +ℤ x) *ℤ s ≡ n *ℤ s = ap (λ (z : ℤ). z *ℤ s) (back (pos 8 *ℤ b) n) in
+    let inner = offset_axis_within s b x (omega (arith, ints)) (local n b is) in
+    ended s p (n *ℤ s) ((pos 8 *ℤ b +ℤ x) *ℤ s) ((pos 8 *ℤ b +ℤ pos 4) *ℤ s) (floor_div (pos 9 *ℤ s) (pos 2)) voxel near inner (floor_is (pos 9 *ℤ s) (pos 2) (omega (arith, ints)))
   where
     back : (m n : ℤ) → m +ℤ (n -ℤ m) ≡ n
     back m n = omega (arith, ints)

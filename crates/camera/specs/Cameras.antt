@@ -49,7 +49,7 @@ pub record HasRanges (k : CameraFields) : Type 0 where
 abbrev pub valid_depth : CameraFields → (d : ℤ) → Option ℤ
 valid_depth k d = if within k.near k.far d then Some d else None
 
--- the depth that a raw sample tells, nothing where the sample is not valid
+-- the depth of a raw sample, nothing where the sample is not valid
 abbrev pub depth_of : CameraFields → (raw : ℕ) → Option ℤ
 depth_of k raw = if raw == 0 then None else valid_depth k (pos raw *ℤ k.unit)
 
@@ -63,7 +63,7 @@ ray_axis f c u z = floor_div ((pos 65536 *ℤ u -ℤ c) *ℤ z) f
 abbrev pub ray : CameraFields → (u v z : ℤ) → Vec3
 ray k u v z = vec (ray_axis k.fx k.cx u z) (ray_axis k.fy k.cy v z) z
 
--- the pixel nearest to where a point before the camera projects, on one axis
+-- one coordinate of the pixel nearest to the projection of a point in front of the camera. The suffix `_axis` is for one coordinate of two or three
 abbrev pub pixel_axis : (f c x z : ℤ) → ℤ
 pixel_axis f c x z = floor_div (f *ℤ x +ℤ c *ℤ z +ℤ pos 32768 *ℤ z) (pos 65536 *ℤ z)
 
@@ -71,11 +71,11 @@ pixel_axis f c x z = floor_div (f *ℤ x +ℤ c *ℤ z +ℤ pos 32768 *ℤ z) (p
 abbrev pub is_in_image : CameraFields → (u v : ℤ) → Bool
 is_in_image k u v = within (pos 0) (k.width -ℤ pos 1) u && within (pos 0) (k.height -ℤ pos 1) v
 
--- whether a camera point projects inside the image: it stands before the camera, and its pixel is one of the image's
+-- whether a camera point projects inside the image: it is in front of the camera, and its pixel is one of the image's
 abbrev pub is_inside : CameraFields → Vec3 → Bool
 is_inside k p = int_le (pos 1) p.z && is_in_image k (pixel_axis k.fx k.cx p.x p.z) (pixel_axis k.fy k.cy p.y p.z)
 
--- the pixel of the image that a camera point projects to, if any
+-- the pixel of the image that a camera point projects to, if there is one
 abbrev pub project : CameraFields → Vec3 → Option (ℕ × ℕ)
 project k p = if is_inside k p then Some (unsigned_abs (pixel_axis k.fx k.cx p.x p.z), unsigned_abs (pixel_axis k.fy k.cy p.y p.z)) else None
 
@@ -85,7 +85,7 @@ project k p = if is_inside k p then Some (unsigned_abs (pixel_axis k.fx k.cx p.x
 abbrev pub left : (c : ℤ) → ℤ
 left c = c +ℤ pos 32768
 
--- on its right
+-- what it has on the right
 abbrev pub right : (width c : ℤ) → ℤ
 right w c = pos 65536 *ℤ w -ℤ c -ℤ pos 32768
 
@@ -146,10 +146,10 @@ pub record IsCamera (k : CameraFields) : Type 0 where
 
 -- ---- the active sphere
 
--- whether a camera point lies in the sphere round the point at the depth `centre` on the axis
+-- whether a camera point lies in the active sphere, whose centre is the point at the depth `centre` on the axis
 abbrev pub is_in_sphere : CameraFields → Vec3 → Bool
 is_in_sphere k c = int_le (square c.x +ℤ square c.y +ℤ square (c.z -ℤ k.centre)) (square k.radius)
 
--- whether a block is active before the camera at a pose: its centre lies in the sphere
+-- whether a block is active at a pose: its centre lies in the active sphere
 abbrev pub is_active : CameraFields → Pose → BlockKey → Bool
 is_active k m b = is_in_sphere k (cam m (centre_of k.voxel b))

@@ -1,4 +1,4 @@
--- The grid: a voxel stands at each whole multiple of the voxel size s, and a block has 8 voxels on each axis.
+-- The grid: there is a voxel at each whole multiple of the voxel size s, and a block has 8 voxels on each axis.
 use Rattle.std.specs.Prelude.{ℕ, ℤ, pos, neg_ℤ, ◌+ℤ◌, ◌-ℤ◌, ◌*ℤ◌, ◌&&◌, int_le, Bool, unsigned_abs, Option, None, Some, if◌then◌else◌}
 use Rattle.fixed_geom.specs.Division.{floor_div}
 use Rattle.fixed_geom.specs.declared.vector.Vec3.{Vec3}
@@ -10,7 +10,7 @@ use Rattle.voxel_block.specs.Blocks.{offset_of, index_of}
 abbrev pub voxel_coordinates : BlockKey → (i : ℕ) → Vec3
 voxel_coordinates b i = vec (pos 8 *ℤ b.x +ℤ pos (offset_of i).x) (pos 8 *ℤ b.y +ℤ pos (offset_of i).y) (pos 8 *ℤ b.z +ℤ pos (offset_of i).z)
 
--- where voxel i of block b stands
+-- the world point of voxel i of block b
 abbrev pub point_of : (s : ℤ) → BlockKey → (i : ℕ) → Vec3
 point_of s b i = vec ((voxel_coordinates b i).x *ℤ s) ((voxel_coordinates b i).y *ℤ s) ((voxel_coordinates b i).z *ℤ s)
 
@@ -38,7 +38,7 @@ nearest_voxel s p = vec (nearest_axis s p.x) (nearest_axis s p.y) (nearest_axis 
 abbrev pub block_of_voxel : Vec3 → BlockKey
 block_of_voxel c = block (floor_div c.x (pos 8)) (floor_div c.y (pos 8)) (floor_div c.z (pos 8))
 
--- how far a voxel coordinate lies from where its block begins, from 0 to 7
+-- the offset of a voxel coordinate in its block, from 0 to 7
 abbrev pub offset_axis : ℤ → ℕ
 offset_axis c = unsigned_abs (c -ℤ pos 8 *ℤ floor_div c (pos 8))
 
@@ -63,6 +63,6 @@ as_key b = if is_key b then Some b else None
 abbrev pub key_at : (s : ℤ) → Vec3 → Option BlockKey
 key_at s p = as_key (block_at s p)
 
--- the voxel nearest to a point, by its block and its index there, nothing where a coordinate of the block does not fit
+-- the voxel nearest to a point, by its block and its voxel index, nothing where a coordinate of the block does not fit
 abbrev pub nearest : (s : ℤ) → Vec3 → Option (BlockKey × ℕ)
 nearest s p = let c = nearest_voxel s p in if is_key (block_of_voxel c) then Some (block_of_voxel c, index_of_voxel c) else None

@@ -6,12 +6,15 @@ ghost use Rattle.camera.specs.Opening.{camera_of, camera_tests, first_failing};
 ghost use Rattle.camera.specs.Visibility.{MeetsNone, may_be_seen};
 
 use crate::opening::{check_opening, failing_field};
-use crate::{grid, projection, ray, sphere, visibility};
+use crate::ray::PixelRays;
+use crate::{grid, projection, sphere, visibility};
 use fixed_geom::{Pose, Vec3};
+use std::error::Error;
+use std::fmt;
 use std::marker::Model;
 use voxel_block::BlockKey;
 
-/// The fields of a camera and of the space round it.
+/// The fields of a camera and of the space in front of it.
 ///
 /// Lengths are micrometres, and `fx`, `fy`, `cx`, `cy` are in 1/65536 pixel.
 #[derive(Clone, Copy, Debug, PartialEq, Eq)]
@@ -22,7 +25,7 @@ pub struct CameraFields {
     pub fy: i64,
     pub cx: i64,
     pub cy: i64,
-    /// What one step of a raw sample is.
+    /// The depth of a raw sample of 1.
     pub unit: i64,
     pub near: i64,
     pub far: i64,
@@ -44,6 +47,46 @@ pub enum BadCamera {
     Reach,
     /// A frame may touch what does not lie in the active sphere.
     Sphere,
+}
+
+impl fmt::Display for BadCamera {
+    fn fmt<W: fmt::Write>(&self, f: &mut fmt::Formatter<W>) -> fmt::Result {
+        match self {
+            BadCamera::Field(number) => {
+                let name = field_name(*number);
+                write!(f, "the {name} is out of its range")
+            }
+            BadCamera::Reach => write!(
+                f,
+                "a frame may touch what lies more than 17 metres from the axis"
+            ),
+            BadCamera::Sphere => write!(
+                f,
+                "a frame may touch what does not lie in the active sphere"
+            ),
+        }
+    }
+}
+
+impl Error for BadCamera {}
+
+/// What the field of this number is called.
+fn field_name(number: u8) -> &'static str {
+    match number {
+        2 => "width",
+        3 => "height",
+        4 => "focal length fx",
+        5 => "focal length fy",
+        6 => "centre cx",
+        7 => "centre cy",
+        8 => "unit",
+        9 => "nearest depth",
+        10 => "farthest depth",
+        11 => "voxel size",
+        12 => "truncation distance mu",
+        13 => "radius of the active sphere",
+        _ => "depth of the active sphere's centre",
+    }
 }
 
 /// A camera whose fields passed all tests.
@@ -92,8 +135,8 @@ impl Camera {
         self.fields
     }
 
-    /// The depth that a raw sample tells, in micrometres. `None` where the sample is 0, or the depth is
-    /// nearer or farther than the camera takes.
+    /// The depth of a raw sample, in micrometres. `None` where the sample is 0, or the depth is
+    /// below `near` or above `far`.
     pub fn depth(&self, raw: u16) -> Option<i64>
         ensures value { result ≡ depth_of self.now raw }
         ensures range { IfSome result (λ d. (pos 1 ≤ℤ d) × (d ≤ℤ self.now.far)) }
@@ -102,7 +145,7 @@ impl Camera {
     }
 
     /// The point at depth `z` on the ray of the pixel in column `u` and row `v`, in the camera's
-    /// micrometres. It is within 17 metres on each axis.
+    /// micrometres. It is within 17 metres on each axis. For many points make the `PixelRays` once.
     pub fn ray(&self, u: u32, v: u32, z: i64) -> Vec3
         requires column { pos u <ℤ self.now.width }
         requires row { pos v <ℤ self.now.height }
@@ -111,10 +154,10 @@ impl Camera {
         ensures value { result ≡ ray_of self.now (pos u) (pos v) z }
         ensures bound { AreWithin (pos 17000000) result }
     {
-        ray::ray(&self.fields, u, v, z)
+        PixelRays::of(self).point(u, v, z)
     }
 
-    /// The pixel (column, row) that a camera point projects to. `None` where the point is not before the
+    /// The pixel (column, row) that a camera point projects to. `None` where the point is not in front of the
     /// camera, or the pixel nearest to it is not one of the image's.
     pub fn project(&self, c: Vec3) -> Option<(u32, u32)>
         requires { AreWithin (pos (2 ^ 42)) c }
@@ -124,8 +167,17 @@ impl Camera {
         projection::project(&self.fields, c)
     }
 
-    /// Whether a block is active at a pose: its centre lies in the sphere before the camera. Where it is not, none of
-    /// its voxels projects inside the image at a depth that a frame may touch.
+    /// The same for a camera point within `2^26` micrometres on each axis, by numbers of 64 bits.
+    pub fn project_near(&self, c: Vec3) -> Option<(u32, u32)>
+        requires { AreWithin (pos (2 ^ 26)) c }
+        ensures value { result ≡ pixel_of self.now c }
+        ensures inside { IfSome result (λ p. ((pos p.0) <ℤ self.now.width) × ((pos p.1) <ℤ self.now.height)) }
+    {
+        projection::project_near(&self.fields, c)
+    }
+
+    /// Whether a block is active at a pose: its centre lies in the active sphere. Where it is not, none of its voxels
+    /// projects inside the image at a depth that a frame may touch.
     pub fn active(&self, pose: &Pose, key: BlockKey) -> bool
         ensures value { result ≡ is_active self.now pose.now key }
         ensures met { result ≡ false → MeetsNone self.now pose.now key }
@@ -134,7 +186,7 @@ impl Camera {
         sphere::is_in_sphere(&self.fields, pose.cam(centre))
     }
 
-    /// Whether a block may be seen at a pose. Where it may not, none of its voxels projects inside the image at a
+    /// Whether a block is visible at a pose. Where it is not, none of its voxels projects inside the image at a
     /// depth that a frame may touch.
     pub fn may_see(&self, pose: &Pose, key: BlockKey) -> bool
         ensures value { result ≡ may_be_seen self.now pose.now key }
@@ -152,7 +204,7 @@ impl Camera {
         grid::block_of(self.fields.voxel, p)
     }
 
-    /// The voxel nearest to a world point, by its block and its index there. `None` where a coordinate of the block
+    /// The voxel nearest to a world point, by its block and its voxel index. `None` where a coordinate of the block
     /// does not fit 16 bits.
     pub fn nearest(&self, p: Vec3) -> Option<(BlockKey, u16)>
         requires { AreWithin (pos (2 ^ 40)) p }
@@ -162,7 +214,7 @@ impl Camera {
         grid::nearest(self.fields.voxel, p)
     }
 
-    /// Where the voxel of index `i` of a block stands in the world.
+    /// The world point of voxel `i` of a block.
     pub fn voxel_point(&self, key: BlockKey, i: u16) -> Vec3
         requires { i < 512 }
         ensures value { result ≡ point_of self.now.voxel key i }
@@ -171,7 +223,7 @@ impl Camera {
         grid::voxel_point(self.fields.voxel, key, i)
     }
 
-    /// The centre of a block in the world.
+    /// The world point of the centre of a block.
     pub fn block_centre(&self, key: BlockKey) -> Vec3
         ensures value { result ≡ centre_of self.now.voxel key }
         ensures bound { AreWithin (pos (2 ^ 40)) result }

@@ -5,7 +5,7 @@ ghost use Rattle.camera.specs.Grid.{centre_of, point_of, block, fits_key, as_key
 use fixed_geom::Vec3;
 use voxel_block::BlockKey;
 
-/// Where the voxel of index `i` of a block stands in the world, in micrometres. A voxel has the size `size`.
+/// The world point of voxel `i` of a block, in micrometres, where a voxel has the size `size`.
 pub fn voxel_point(size: i64, key: BlockKey, i: u16) -> Vec3
     requires size { IsWithin (pos 100000) size }
     requires index { i < 512 }
@@ -47,7 +47,7 @@ pub fn block_of(size: i64, p: Vec3) -> Option<BlockKey>
     )
 }
 
-/// The voxel nearest to a point, by its block and its index there. `None` where a coordinate of the block does not fit
+/// The voxel nearest to a point, by its block and its voxel index. `None` where a coordinate of the block does not fit
 /// 16 bits.
 pub fn nearest(size: i64, p: Vec3) -> Option<(BlockKey, u16)>
     requires size { pos 1 ≤ℤ size }
@@ -122,7 +122,7 @@ fn index_of_voxel(voxel: Vec3) -> u16
     offset_axis(voxel.x) + 8 * offset_axis(voxel.y) + 64 * offset_axis(voxel.z)
 }
 
-/// How far a voxel coordinate lies from where its block begins.
+/// The offset of a voxel coordinate in its block.
 fn offset_axis(coordinate: i64) -> u16
     ensures value { result ≡ offset_axis_of coordinate }
     ensures bound { result < 8 }
@@ -130,12 +130,12 @@ fn offset_axis(coordinate: i64) -> u16
     coordinate.rem_euclid(8) as u16
 }
 
-/// A coordinate of a voxel, by the block's and its place in the block.
-fn coordinate(size: i64, block: i16, place: u16) -> i64
+/// A coordinate of a voxel's point, by the block's coordinate and the voxel's offset in the block.
+fn coordinate(size: i64, block: i16, offset: u16) -> i64
     requires size { IsWithin (pos 100000) size }
-    requires place { place < 8 }
-    ensures value { result ≡ (pos 8 *ℤ block +ℤ pos place) *ℤ size }
+    requires offset { offset < 8 }
+    ensures value { result ≡ (pos 8 *ℤ block +ℤ pos offset) *ℤ size }
     ensures bound { IsWithin (pos (2 ^ 40)) result }
 {
-    (8 * i64::from(block) + i64::from(place)) * size
+    (8 * i64::from(block) + i64::from(offset)) * size
 }

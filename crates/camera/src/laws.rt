@@ -1,6 +1,6 @@
 ghost use Rattle.camera.specs.Laws.{MetIsActive, NearestIsActive, PiercedIsActive, UnseenMeetsNone};
 
-/// No voxel of a block that may not be seen projects inside the image at a depth that a frame may
+/// No voxel of a block that is not visible projects inside the image at a depth that a frame may
 /// touch. The body is empty: the clause is the theorem.
 pub fn unseen_meets_none()
     ensures { UnseenMeetsNone }
@@ -12,8 +12,8 @@ pub fn met_is_active()
     ensures { MetIsActive }
 {}
 
-/// A block is active, and its coordinates are from -18876 to 18875, if the segment between two
-/// points of a pixel's ray goes through it.
+/// A block is active, its coordinates are from -18876 to 18875, and 8 voxel sizes times each of them
+/// is at most 2^30 either way, if the segment between two points of a pixel's ray goes through it.
 pub fn pierced_is_active()
     ensures { PiercedIsActive }
 {}

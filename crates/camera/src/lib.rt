@@ -7,11 +7,13 @@ pub mod laws;
 mod opening;
 mod projection;
 mod ray;
+mod shared;
 mod sphere;
 mod visibility;
 
 pub use camera::{BadCamera, Camera, CameraFields};
 pub use opening::first_failing;
+pub use ray::PixelRays;
 
 #[cfg(test)]
 mod tests;

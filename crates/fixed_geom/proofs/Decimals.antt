@@ -1,5 +1,5 @@
 -- Powers of ten, and the nearest whole number.
-use Rattle.std.proofs.Common.{◌≡◌, ℕ, suc, ◌+◌, ◌-◌, ◌*◌, ◌^◌, ◌≤◌, ◌<◌, arith, refl, sym, ap, ◌∙◌, add-one, List, length, take, drop, get_or, Option, None, Some, Err, true, false, ltb, length-drop}
+use Rattle.std.proofs.Common.{◌≡◌, ℕ, suc, ◌+◌, ◌-◌, ◌*◌, ◌^◌, ◌≤◌, ◌<◌, arith, refl, sym, ap, add-one, List, length, take, drop, get_or, Option, None, Some, Err, true, false, ltb, length-drop}
 use Rattle.std.proofs.lemmas.Bool.{lt-ltb, le-ltb}
 use Rattle.std.proofs.lemmas.List.{take_all}
 use Rattle.std.proofs.lemmas.List.Sums.{position_or_len_is}
@@ -33,16 +33,6 @@ digit_fits n k d h small few =
     omega arith
 
 -- ---- the nearest whole number
-
-halved : (x : ℤ) → round_div x (pos 1) ≡ x
-halved (pos m) = omega (arith, ints)
-halved (negsuc m) =
-    let e : pos 2 *ℤ negsuc m +ℤ pos 1 ≡ negsuc (2 * m) = omega (arith, ints) in
-    ap (λ (z : ℤ). int_div_euclid z (pos 2)) e ∙ ap negsuc (omega arith)
-
-pub nearest_above : (a power q : ℤ) → pos 0 ≤ℤ power → q ≡ a *ℤ pos (10 ^ unsigned_abs power) → q ≡ nearest_of a power
-nearest_above a (pos n) q h is = is ∙ sym (halved (a *ℤ pos (10 ^ n)))
-nearest_above a (negsuc n) q h is = absurd (omega (arith, ints))
 
 pub nearest_below : (a power q : ℤ) → power <ℤ pos 0 → q ≡ round_div a (pos (10 ^ unsigned_abs power)) → q ≡ nearest_of a power
 nearest_below a (pos n) q h is = absurd (omega (arith, ints))
