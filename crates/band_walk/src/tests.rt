@@ -49,7 +49,7 @@ const WIDE: CameraFields = CameraFields {
     ..PIXEL
 };
 
-// Two rows of two pixels that look a thousandth aside, and so through the same blocks.
+// Two rows of two pixels whose rays differ by a thousandth, and so pass through the same blocks.
 const NARROW: CameraFields = CameraFields {
     width: 2,
     height: 2,
@@ -78,8 +78,7 @@ fn collected(
     Ok(keys)
 }
 
-// The keys of row `v` of the samples, seen from the origin. `None` where the camera or the pose is none, or memory is
-// wanting.
+// The keys of row `v` of the samples, taken from the origin. `None` where the camera or the pose is refused, or out of memory.
 fn keys(
     alloc: Global,
     fields: CameraFields,
@@ -144,7 +143,7 @@ fn keys_of_rows(rt: HostRuntime) {
         assert!(rt; same(found, expected), "from {}", samples[0]);
     }
     for (samples, v, expected) in [
-        // a neighbour left out between two pixels
+        // a repeat left out between two pixels
         (
             [1000, 1080, 0, 0],
             0,

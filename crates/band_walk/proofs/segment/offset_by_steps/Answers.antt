@@ -6,16 +6,16 @@ use mir.Syntax.{w64}
 use Rattle.fixed_geom.specs.Vectors.{IsWithin}
 use Rattle.fixed_geom.proofs.Dots.{within_product}
 use Rattle.camera.proofs.Machine.{product_same}
-use Rattle.band_walk.proofs.segment.ways.Goals as goal
+use Rattle.band_walk.proofs.segment.offset_by_steps.Goals as goal
 
 pub returns-clause-value : goal.returns-clause-value
 returns-clause-value c =
     let d = c.args.end -ℤ c.args.start in
     let j : to_z w64 (of_z w64 c.from.result) ≡ pos c.args.j = omega (arith, ints) in
-    let way : to_z w64 (of_z w64 (to_z w64 (of_z w64 c.args.end) -ℤ to_z w64 (of_z w64 c.args.start))) ≡ d = omega (arith, ints) in
+    let offset : to_z w64 (of_z w64 (to_z w64 (of_z w64 c.args.end) -ℤ to_z w64 (of_z w64 c.args.start))) ≡ d = omega (arith, ints) in
     let few : IsWithin (pos 75504) (pos c.args.j) = record { low = omega (arith, ints); high = omega (arith, ints) } in
     let near : IsWithin (pos 302012452) d = record { low = omega (arith, ints); high = omega (arith, ints) } in
-    rw (j, way, product_same 75504 302012452 (pos c.args.j) d few near (lit≤ tt)) refl
+    rw (j, offset, product_same 75504 302012452 (pos c.args.j) d few near (lit≤ tt)) refl
 
 pub returns-clause-bound : goal.returns-clause-bound
 returns-clause-bound c =
