@@ -2,12 +2,11 @@
 use Rattle.std.specs.Prelude.{ℕ, ◌+◌, ◌≡◌, ◌<◌, ◌≤◌, ℤ, pos, ◌+ℤ◌, ◌-ℤ◌, ◌*ℤ◌, unsigned_abs, max, Option, None, Some, List, [], map}
 use Rattle.std.specs.List.{dedup, range_with_len, flat_map}
 use Rattle.std.specs.Int.{int_max}
-use Rattle.std.specs.Ordering.{eq_by_cmp}
 use Rattle.fixed_geom.specs.Division.{floor_div}
 use Rattle.fixed_geom.specs.declared.vector.Vec3.{Vec3}
 use Rattle.fixed_geom.specs.Poses.{world}
 use Rattle.voxel_block.specs.declared.key.BlockKey.{BlockKey}
-use Rattle.voxel_block.specs.Keys.{key_cmp}
+use Rattle.voxel_block.specs.Keys.{same_key}
 use Rattle.camera.specs.Grid.{block_at}
 use Rattle.camera.specs.Cameras.{ray}
 use Rattle.camera.specs.Visibility.{sample_of}
@@ -76,4 +75,4 @@ band w = flat_map (row_blocks w) (range_with_len 0 w.depths.height)
 
 -- the keys of a row: its blocks, without those that are equal to the one just before
 abbrev pub row_keys : View → (v : ℕ) → List BlockKey
-row_keys w v = dedup (eq_by_cmp key_cmp) (row_blocks w v)
+row_keys w v = dedup same_key (row_blocks w v)

@@ -1,10 +1,9 @@
 -- What remains of the parts of a walk.
 use Rattle.std.specs.Prelude.{ℕ, ◌+◌, ◌-◌, ◌≡◌, ◌<◌, ◌≤◌, pos, ◌≤ℤ◌, Bool, false, if◌then◌else◌, Option, None, Some, List, [], ◌∷◌, ◌++◌, map, MatchOption}
 use Rattle.std.specs.List.{range_with_len, flat_map}
-use Rattle.std.specs.Ordering.{eq_by_cmp}
 use Rattle.fixed_geom.specs.Vectors.{AreWithin}
 use Rattle.voxel_block.specs.declared.key.BlockKey.{BlockKey}
-use Rattle.voxel_block.specs.Keys.{key_cmp}
+use Rattle.voxel_block.specs.Keys.{same_key}
 use Rattle.camera.specs.Grid.{block_at}
 use Rattle.depth_view.specs.Views.{View, view_of, FitsImage}
 use Rattle.band_walk.specs.Bands.{segment_point, pixel_blocks}
@@ -58,7 +57,7 @@ pub record IsRowBlocks (b : RowBlocks) : Type 0 where
 -- whether a key is the one given last, if one was
 abbrev pub is_last : Option BlockKey → BlockKey → Bool
 is_last None key = false
-is_last (Some last) key = eq_by_cmp key_cmp key last
+is_last (Some last) key = same_key key last
 
 -- the keys of blocks after the key given last, without those that are equal to the one just before
 abbrev pub keys_after : Option BlockKey → List BlockKey → List BlockKey

@@ -11,7 +11,7 @@ use Rattle.block_heap.specs.declared.cell.Cell.TheVariants.{Free, Owned}
 use Rattle.block_heap.specs.Cells.{Cells, IsFreeList, content, freed, given_up, given_up_with, has_free, is_free}
 use Rattle.block_heap.specs.HeapLending.{with_block_at, with_block_in}
 use Rattle.block_heap.specs.Lending.{with_block}
-use Rattle.block_heap.proofs.FreeLists.{by_test, kept_list}
+use Rattle.block_heap.proofs.FreeLists.{by_number}
 
 -- ys is xs, of n elements, without the one at i, whose place the last one took
 pub record IsTakenOut {X : Type 0} (xs ys : List X) (i n : ℕ) : Type 0 where
@@ -39,9 +39,9 @@ module _ {X : Type 0} (xs ys zs : List X) (i n : ℕ) (y d : X) (taken : IsTaken
   each same k within =
       let in_xs : k < length xs = omega arith in
       let place : i < length xs = omega arith in
-      by_test k i
+      by_number k i
       (λ e. subst (λ j. get_or zs j d ≡ get_or (set xs i y) j d) (sym e) (at_place ∙ sym (get_or-set_same xs i y d place)))
-      (λ other. by_test k (length ys)
+      (λ other. by_number k (length ys)
       (λ e. subst (λ j. get_or zs j d ≡ get_or xs j d) (sym e) (at_last (λ f. other (e ∙ sym f))) ∙ sym (get_or-set_other xs i k y d other))
       (λ inner. at_other k other inner in_xs ∙ sym (get_or-set_other xs i k y d other)))
 
@@ -82,9 +82,3 @@ lent_where_owned f g None (Free b) e = refl
 lent_where_owned f g None (Owned k b) e = absurd (cc)
 lent_where_owned f g (Some a) (Free b) e = absurd (cc)
 lent_where_owned f g (Some a) (Owned k b) e = refl
-
--- the list of the free cells stays right where a block was written in an owned cell
-pub with_block_list : (h : Cells) (n : ℕ) (c : Cell) (w : List Voxel) → slice_get h.cells n ≡ Some c → IsFreeList h.cells h.free → IsFreeList (with_block_at h n w).cells (with_block_at h n w).free
-with_block_list h n c w is list =
-    subst (λ (g : Cells). IsFreeList g.cells g.free) (with_block_at_is h n c w is)
-    (kept_list h.cells h.free n (with_block c w) list (slice_get_within h.cells n c is) (is_free-with_block c w ∙ sym (ap has_free is)))

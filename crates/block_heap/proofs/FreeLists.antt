@@ -10,7 +10,7 @@ use Rattle.std.proofs.lemmas.Bool.Decides.{nat_tests}
 use Rattle.voxel_block.specs.declared.voxel.Voxel.{Voxel}
 use Rattle.block_heap.specs.declared.cell.Cell.{Cell}
 use Rattle.block_heap.specs.declared.cell.Cell.TheVariants.{Free, Owned}
-use Rattle.block_heap.specs.Cells.{IsFreeList, is_free, is_free_at, numbers_down}
+use Rattle.block_heap.specs.Cells.{IsFreeList, has_free, is_free, is_free_at, numbers_down}
 
 -- whether a cell is owned
 abbrev pub is_owned : Cell → Bool
@@ -26,17 +26,23 @@ times n ms = count_by (λ m. nat_eq m n) ms
 
 -- ---- cells of which one is changed
 
+pub slice_get-set : (cells : List Cell) (m : ℕ) (c : Cell) → m < length cells → slice_get (set cells m c) m ≡ Some c
+slice_get-set [] m c below = absurd (omega arith)
+slice_get-set (x ∷ xs) zero c below = refl
+slice_get-set (x ∷ xs) (suc m) c below = slice_get-set xs m c (omega arith)
+
+pub slice_get-set_other : (cells : List Cell) (m n : ℕ) (c : Cell) → n ≢ m → slice_get (set cells m c) n ≡ slice_get cells n
+slice_get-set_other [] m n c other = refl
+slice_get-set_other (x ∷ xs) zero zero c other = absurd (other refl)
+slice_get-set_other (x ∷ xs) zero (suc n) c other = refl
+slice_get-set_other (x ∷ xs) (suc m) zero c other = refl
+slice_get-set_other (x ∷ xs) (suc m) (suc n) c other = slice_get-set_other xs m n c (λ e. other (ap suc e))
+
 is_free_at-set : (cells : List Cell) (m : ℕ) (c : Cell) → m < length cells → is_free_at (set cells m c) m ≡ is_free c
-is_free_at-set [] m c below = absurd (omega arith)
-is_free_at-set (x ∷ xs) zero c below = refl
-is_free_at-set (x ∷ xs) (suc m) c below = is_free_at-set xs m c (omega arith)
+is_free_at-set cells m c below = ap has_free (slice_get-set cells m c below)
 
 is_free_at-set_other : (cells : List Cell) (m n : ℕ) (c : Cell) → m ≢ n → is_free_at (set cells m c) n ≡ is_free_at cells n
-is_free_at-set_other [] m n c other = refl
-is_free_at-set_other (x ∷ xs) zero zero c other = absurd (other refl)
-is_free_at-set_other (x ∷ xs) zero (suc n) c other = refl
-is_free_at-set_other (x ∷ xs) (suc m) zero c other = refl
-is_free_at-set_other (x ∷ xs) (suc m) (suc n) c other = is_free_at-set_other xs m n c (λ e. other (ap suc e))
+is_free_at-set_other cells m n c other = ap has_free (slice_get-set_other cells m n c (λ e. other (sym e)))
 
 pub is_free_at-lt : (cells : List Cell) (n : ℕ) → is_free_at cells n ≡ true → n < length cells
 is_free_at-lt [] n e = absurd (cc)
@@ -48,13 +54,13 @@ is_free-get_or [] n d below = absurd (omega arith)
 is_free-get_or (x ∷ xs) zero d below = refl
 is_free-get_or (x ∷ xs) (suc n) d below = is_free-get_or xs n d (omega arith)
 
-shifted : (n count : ℕ) → nat_lt n count ≡ nat_lt (suc n) (suc count)
-shifted n count = grind (arith, nat_tests)
+nat_lt-suc : (n count : ℕ) → nat_lt n count ≡ nat_lt (suc n) (suc count)
+nat_lt-suc n count = grind (arith, nat_tests)
 
 is_free_at-replicate : (count n : ℕ) (c : Cell) → is_free c ≡ true → is_free_at (replicate count c) n ≡ nat_lt n count
 is_free_at-replicate zero n c e = sym (le-ltb n 0 (omega arith))
 is_free_at-replicate (suc count) zero c e = e ∙ sym (lt-ltb 0 (suc count) (omega arith))
-is_free_at-replicate (suc count) (suc n) c e = is_free_at-replicate count n c e ∙ shifted n count
+is_free_at-replicate (suc count) (suc n) c e = is_free_at-replicate count n c e ∙ nat_lt-suc n count
 
 -- ---- numbers
 
@@ -64,8 +70,9 @@ times-cons n m ms = sum_by-cons (λ k. once (nat_eq k n)) m ms
 times_push : (n m : ℕ) (ms : List ℕ) → times n (ms ++ m ∷ []) ≡ times n ms + once (nat_eq m n)
 times_push n m ms = sum_by_push (λ k. once (nat_eq k n)) ms m
 
-pub by_test : (m n : ℕ) {P : Type 0} → (m ≡ n → P) → (m ≢ n → P) → P
-by_test m n {P} f g =
+-- two numbers are equal or differ
+pub by_number : (m n : ℕ) {P : Type 0} → (m ≡ n → P) → (m ≢ n → P) → P
+by_number m n {P} f g =
     elim (nat_eq m n) as (λ b. nat_eq m n ≡ b → P) [
       | true ↦ λ e. f (eqb-true m n e)
       | false ↦ λ e. g (eqb-false m n e)
@@ -81,15 +88,15 @@ times-numbers_down (suc count) n = times-cons n count (numbers_down count) ∙ (
 nothing_more : (t : ℕ) → t ≡ 0 + t
 nothing_more t = omega arith
 
-nothing_behind : (t : ℕ) → t + 0 ≡ t
-nothing_behind t = omega arith
+nothing_after : (t : ℕ) → t + 0 ≡ t
+nothing_after t = omega arith
 
 -- ---- lists of free numbers
 
 pub new_list : (count : ℕ) (c : Cell) → is_free c ≡ true → IsFreeList (replicate count c) (numbers_down count)
 new_list count c e = record { each = λ n. times-numbers_down count n ∙ ap once (sym (is_free_at-replicate count n c e)) }
 
--- the list of a new heap is made from the front on: i numbers stand there
+-- the list of a new heap is made from the front on: it has i numbers
 pub numbers_more : (count i : ℕ) (before after : List ℕ) → i < count → after ≡ before ++ (count - 1 - i) ∷ [] → before ++ numbers_down (count - i) ≡ numbers_down count
     → after ++ numbers_down (count - (i + 1)) ≡ numbers_down count
 numbers_more count i before after below pushed so_far =
@@ -111,10 +118,10 @@ new_list_of count b cells free p q = rw (p, q) (new_list count (Free b) refl)
 pub freed_list : (cells : List Cell) (free : List ℕ) (m : ℕ) (c : Cell) → IsFreeList cells free → m < length cells → is_free_at cells m ≡ false → is_free c ≡ true
     → IsFreeList (set cells m c) (free ++ m ∷ [])
 freed_list cells free m c list below was now = record {
-  each = λ n. by_test m n
+  each = λ n. by_number m n
       (λ e. subst (λ k. times k (free ++ m ∷ []) ≡ once (is_free_at (set cells m c) k)) e
       (times_push m m free ∙ (λ i. (list.each m ∙ ap once was) i + once (eq-eqb m m refl i)) ∙ ap once (sym (is_free_at-set cells m c below ∙ now))))
-      (λ other. times_push n m free ∙ (λ i. list.each n i + once (ne_eqb m n other i)) ∙ nothing_behind (once (is_free_at cells n)) ∙ ap once (sym (is_free_at-set_other cells m n c other)));
+      (λ other. times_push n m free ∙ (λ i. list.each n i + once (ne_eqb m n other i)) ∙ nothing_after (once (is_free_at cells n)) ∙ ap once (sym (is_free_at-set_other cells m n c other)));
 }
 
 only_once : (b : Bool) (t : ℕ) → 1 + t ≡ once b → (b ≡ true) × (t ≡ 0)
@@ -128,7 +135,7 @@ first_once cells free m list = only_once (is_free_at cells m) (times m free) (ap
 -- the first of the free cells comes to be owned
 owned_list : (cells : List Cell) (free : List ℕ) (m : ℕ) (c : Cell) → IsFreeList cells (m ∷ free) → is_free c ≡ false → IsFreeList (set cells m c) free
 owned_list cells free m c list now = record {
-  each = λ n. by_test m n
+  each = λ n. by_number m n
       (λ e. subst (λ k. times k free ≡ once (is_free_at (set cells m c) k)) e
       ((first_once cells free m list).1 ∙ ap once (sym (is_free_at-set cells m c (is_free_at-lt cells m (first_once cells free m list).0) ∙ now))))
       (λ other. nothing_more (times n free) ∙ ap (λ b. once b + times n free) (sym (ne_eqb m n other)) ∙ sym (times-cons n m free) ∙ list.each n ∙ ap once (sym (is_free_at-set_other cells m n c other)));
@@ -137,7 +144,7 @@ owned_list cells free m c list now = record {
 -- a cell that changes, and stays free or stays owned
 pub kept_list : (cells : List Cell) (free : List ℕ) (m : ℕ) (c : Cell) → IsFreeList cells free → m < length cells → is_free c ≡ is_free_at cells m → IsFreeList (set cells m c) free
 kept_list cells free m c list below same = record {
-  each = λ n. list.each n ∙ ap once (by_test m n
+  each = λ n. list.each n ∙ ap once (by_number m n
       (λ e. subst (λ k. is_free_at cells k ≡ is_free_at (set cells m c) k) e (sym same ∙ sym (is_free_at-set cells m c below)))
       (λ other. sym (is_free_at-set_other cells m n c other)));
 }
@@ -211,55 +218,3 @@ has_room cells free m list below owned =
     let here : once (is_owned (get_or cells m an_owned)) ≡ 1 = ap (λ b. once (not b)) (is_free-get_or cells m an_owned below ∙ owned) in
     let some = get_or-le-sum_by (λ c. once (is_owned c)) cells m an_owned below in
     omega (arith, here, some, counted cells free list)
-
--- ---- what is in the list
-
-at_least_once : (b : Bool) (t : ℕ) → 1 ≤ t → t ≡ once b → b ≡ true
-at_least_once true t some e = refl
-at_least_once false t some e = absurd (omega arith)
-
--- each number is a free cell's
-pub listed_is_free : (cells : List Cell) (free : List ℕ) (n : ℕ) → IsFreeList cells free → Contains free n → is_free_at cells n ≡ true
-listed_is_free cells free n list there =
-    let here : once (nat_eq (get_or free there.0 n) n) ≡ 1 = ap once (eq-eqb (get_or free there.0 n) n there.2) in
-    let some = get_or-le-sum_by (λ m. once (nat_eq m n)) free there.0 n there.1 in
-    at_least_once (is_free_at cells n) (times n free) (omega arith) (list.each n)
-
-found : (n : ℕ) (ms : List ℕ) → 1 ≤ times n ms → Contains ms n
-found n [] some = absurd (omega arith)
-found n (m ∷ ms) some = by_test m n
-    (λ e. (zero, omega arith, e))
-    (λ other.
-    let no : once (nat_eq m n) ≡ 0 = ap once (ne_eqb m n other) in
-    let rest = found n ms (omega (arith, times-cons n m ms, no)) in
-    (suc rest.0, omega (arith, rest.1), rest.2))
-
--- each free cell has its number there
-pub free_is_listed : (cells : List Cell) (free : List ℕ) (n : ℕ) → IsFreeList cells free → is_free_at cells n ≡ true → Contains free n
-free_is_listed cells free n list is =
-    let one : times n free ≡ 1 = list.each n ∙ ap once is in
-    found n free (omega arith)
-
-none_of : (n : ℕ) (ms : List ℕ) → times n ms ≡ 0 → AllByRecursion (λ m. nat_eq n m ≡ false) ms
-none_of n [] none = tt
-none_of n (m ∷ ms) none = by_test m n
-    (λ e.
-    let here : once (nat_eq m n) ≡ 1 = ap once (eq-eqb m n e) in
-    absurd (omega (arith, times-cons n m ms, here)))
-    (λ other. (ne_eqb n m (λ e. other (sym e)), none_of n ms (omega (arith, times-cons n m ms))))
-
-once_each : (ms : List ℕ) → ((n : ℕ) → times n ms ≤ 1) → IsDistinct nat_eq ms
-unfolding IsDistinct
-once_each [] h = tt
-once_each (m ∷ ms) h =
-    let here : once (nat_eq m m) ≡ 1 = ap once (eq-eqb m m refl) in
-    let no_more : times m ms ≡ 0 = omega (arith, h m, times-cons m m ms, here) in
-    (none_of m ms no_more, once_each ms (λ n. omega (arith, h n, times-cons n m ms)))
-
-at_most_once : (b : Bool) (t : ℕ) → t ≡ once b → t ≤ 1
-at_most_once true t e = omega arith
-at_most_once false t e = omega arith
-
--- and no number is there twice
-pub distinct_list : (cells : List Cell) (free : List ℕ) → IsFreeList cells free → IsDistinct nat_eq free
-distinct_list cells free list = once_each free (λ n. at_most_once (is_free_at cells n) (times n free) (list.each n))

@@ -30,6 +30,11 @@ freed (Owned k b) = Free b
 abbrev pub owned_by : BlockKey → Cell
 owned_by key = Owned key new_block
 
+-- the cell of this key with new voxels, or the free cell with the same block
+abbrev pub with_owner : Cell → Option BlockKey → Cell
+with_owner c (Some key) = owned_by key
+with_owner c None = freed c
+
 -- whether a free cell is there
 abbrev pub has_free : Option Cell → Bool
 has_free None = false

@@ -1,6 +1,6 @@
 ghost use Rattle.std.specs.Prelude.{◌≡◌, option_map};
 ghost use Rattle.std.specs.Borrow.{sem};
-ghost use Rattle.block_heap.specs.Cells.{content, freed as freed_of, is_free as is_free_of, owned_by as owned_by_of};
+ghost use Rattle.block_heap.specs.Cells.{content, freed as freed_of, is_free as is_free_of, owned_by as owned_by_of, with_owner as with_owner_of};
 ghost use Rattle.block_heap.specs.Lending.{LendsBlock};
 
 use voxel_block::{Block, BlockKey};
@@ -8,7 +8,7 @@ use voxel_block::{Block, BlockKey};
 /// A place for one block.
 #[derive(Drop)]
 pub enum Cell {
-    /// No key's. What the block holds is of no account.
+    /// No key's. Its voxels mean nothing.
     Free(Block),
     /// The block of this key.
     Owned(BlockKey, Block),
@@ -42,6 +42,16 @@ impl Cell {
         };
         block.reset();
         Cell::Owned(key, block)
+    }
+
+    // The cell of this key with new voxels, or the free cell with the same block.
+    pub(crate) fn with_owner(self, owner: Option<BlockKey>) -> Cell
+        ensures { result ≡ with_owner_of self owner }
+    {
+        match owner {
+            Some(key) => self.owned_by(key),
+            None => self.freed(),
+        }
     }
 
     // The block of an owned cell, to be changed. `None` exactly where it is free.

@@ -1,5 +1,5 @@
 ghost use Rattle.std.specs.Prelude.{◌≡◌, ◌↔◌, ◌-◌, ◌^◌, ◌<◌, ◌≤◌, length, Some, IsSome, IfOk, IfSome, true, is_some, not, option_and_then, option_map, slice_get, slice_set, count_by, vec_len, vec_capacity};
-ghost use Rattle.block_heap.specs.Cells.{IsFreeList, content, drawn, freed, given_up, is_free, is_free_at, new_cells, owned_by};
+ghost use Rattle.block_heap.specs.Cells.{IsFreeList, content, drawn, given_up, is_free, is_free_at, new_cells, with_owner};
 ghost use Rattle.block_heap.specs.declared.cell.Cell.{Cell as CellValue};
 ghost use Rattle.block_heap.specs.HeapLending.{LendsBlockAt};
 ghost use Rattle.std.specs.Borrow.{sem};
@@ -9,8 +9,9 @@ use std::alloc::Global;
 use std::marker::Model;
 use voxel_block::{Block, BlockKey, NoMemory};
 
-/// A fixed number of cells, numbered from 0, each with a block, and the numbers of those that are free.
-/// Only `make` takes memory: a number is added within the room of the list.
+/// A fixed number of cells, numbered from 0, each with a block, and the numbers of the free ones.
+///
+/// Only `make` allocates.
 #[derive(Drop)]
 pub struct Heap {
     cells: Vec<Cell>,
@@ -30,7 +31,7 @@ impl Model for Heap {
 }
 
 impl Heap {
-    /// `n` free cells with new voxels, of which the lowest number is drawn first. All memory is taken
+    /// A heap of `n` free cells with new voxels. The lowest number is drawn first. All memory is allocated
     /// here, about 1.5 KB a cell.
     pub fn make(alloc: Global, n: u32) -> Result<Heap, NoMemory>
         requires least { 1 ≤ n }
@@ -47,7 +48,7 @@ impl Heap {
         Ok(Heap { cells, free })
     }
 
-    /// The heap of these cells, where these are the numbers of the free ones.
+    /// The heap with these cells, where these are the numbers of the free ones.
     pub fn of_parts(cells: Vec<Cell>, free: Vec<u32>) -> Heap
         requires list { IsFreeList cells.items free.items }
         requires short { vec_len cells < 2 ^ 32 }
@@ -57,7 +58,7 @@ impl Heap {
         Heap { cells, free }
     }
 
-    /// The cells, and the numbers of the free ones, with room for as many numbers as there are cells.
+    /// The cells, and the numbers of the free ones, a list with capacity for all cells.
     pub fn into_parts(self) -> (Vec<Cell>, Vec<u32>)
         ensures cells { result.0.items ≡ self.cells }
         ensures free { result.1.items ≡ self.free }
@@ -68,7 +69,7 @@ impl Heap {
         (self.cells, self.free)
     }
 
-    /// How many cells there are.
+    /// The number of cells.
     pub fn cell_count(&self) -> u32
         ensures value { result ≡ length self.now.cells }
         ensures list { IsFreeList self.now.cells self.now.free }
@@ -76,7 +77,7 @@ impl Heap {
         self.cells.len() as u32
     }
 
-    /// How many cells are free.
+    /// The number of free cells.
     pub fn free_count(&self) -> u32
         ensures value { result ≡ length self.now.free }
         ensures cells { result ≡ count_by is_free self.now.cells }
@@ -109,7 +110,7 @@ impl Heap {
         self.cells[cell as usize].block_mut()
     }
 
-    /// Gives a free cell to the key, with new voxels, and answers its number. `None` exactly where no cell is free.
+    /// Gives a free cell to the key, with new voxels, and returns its number. `None` exactly where no cell is free.
     pub fn draw(&mut self, key: BlockKey) -> Option<u32>
         ensures value { result ≡ slice_get self.old.free (length self.old.free - 1) }
         ensures variant { IsSome result ↔ (0 < length self.old.free) }
@@ -119,7 +120,7 @@ impl Heap {
         ensures list { IsFreeList self.new.cells self.new.free }
     {
         let cell = self.free.pop()?;
-        own_cell(&mut self.cells, cell as usize, key);
+        set_owner(&mut self.cells, cell as usize, Some(key));
         Some(cell)
     }
 
@@ -133,31 +134,19 @@ impl Heap {
         if self.cells[cell as usize].is_free() {
             return;
         }
-        free_cell(&mut self.cells, cell as usize);
+        set_owner(&mut self.cells, cell as usize, None);
         self.free.push_reserved(cell);
     }
 }
 
-// Gives the cell of this number to the key, and makes its block's voxels new.
-fn own_cell(cells: &mut Vec<Cell>, i: usize, key: BlockKey)
+// Gives the cell of this number to the key, with new voxels, or frees it, with the block that it has.
+fn set_owner(cells: &mut Vec<Cell>, i: usize, owner: Option<BlockKey>)
     requires { i < vec_len cells.old }
-    ensures cells { cells.new.items ≡ slice_set cells.old.items i (owned_by key) }
+    ensures cells { (c : CellValue) → slice_get cells.old.items i ≡ Some c → cells.new.items ≡ slice_set cells.old.items i (with_owner c owner) }
     ensures len { vec_len cells.new ≡ vec_len cells.old }
 {
     let cell = cells.swap_remove(i);
-    cells.push_reserved(cell.owned_by(key));
-    let last = cells.len() - 1;
-    cells.swap(i, last);
-}
-
-// Frees the cell of this number, and leaves its block there.
-fn free_cell(cells: &mut Vec<Cell>, i: usize)
-    requires { i < vec_len cells.old }
-    ensures cells { (c : CellValue) → slice_get cells.old.items i ≡ Some c → cells.new.items ≡ slice_set cells.old.items i (freed c) }
-    ensures len { vec_len cells.new ≡ vec_len cells.old }
-{
-    let cell = cells.swap_remove(i);
-    cells.push_reserved(cell.freed());
+    cells.push_reserved(cell.with_owner(owner));
     let last = cells.len() - 1;
     cells.swap(i, last);
 }

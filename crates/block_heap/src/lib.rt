@@ -1,4 +1,4 @@
-//! A heap of blocks: a fixed number of cells with a block each, which keys come to own and give up.
+//! A heap of blocks: a fixed number of cells with a block each, which keys own and give up.
 #![tactic(auto)]
 
 mod cell;

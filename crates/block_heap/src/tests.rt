@@ -65,6 +65,7 @@ fn parts_make_a_heap(rt: HostRuntime) -> Result<(), Fail> {
     assert!(rt; heap.lend(1).is_none());
     heap.give_up(0);
     let (cells, free) = heap.into_parts();
+    is_shared(&cells);
     assert_eq!(rt; cells.len(), 2);
     assert_eq!(rt; free.as_slice(), [1, 0].as_slice());
     Ok(())

@@ -9,8 +9,7 @@ use Rattle.std.proofs.lemmas.List.{length-map}
 use Rattle.voxel_block.specs.declared.key.BlockKey.{BlockKey}
 use Rattle.voxel_block.specs.declared.voxel.Voxel.{Voxel}
 use Rattle.voxel_block.specs.Keys.{key_cmp}
-use Rattle.voxel_block.proofs.KeyLaws.{exact_keys, keys_total}
-use Rattle.spatial_hash.proofs.SameKeys.{same-key}
+use Rattle.voxel_block.proofs.KeyLaws.{exact_keys, keys_total, same_key_is}
 use Rattle.voxel_block.proofs.KeyLaws.{get_key}
 use Rattle.block_places.specs.Places.{Places, blocks_of, slots_of, voxels_by}
 use Rattle.block_places.proofs.Trees.{found_in}
@@ -26,7 +25,7 @@ module _ {X Y : Type 0} (g : BlockKey → X → Y) where
   find-made [] q = refl
   find-made (e ∷ es) q =
       elim (eq_by_cmp key_cmp q e.0) as (λ b. eq_by_cmp key_cmp q e.0 ≡ b → cond b (Some (g e.0 e.1)) (find key_cmp q (made es)) ≡ option_map (g q) (cond b (Some e.1) (find key_cmp q es))) [
-        | true ↦ λ t. ap (λ k. Some (g k e.1)) (sym (same-key q e.0 t))
+        | true ↦ λ t. ap (λ k. Some (g k e.1)) (sym (same_key_is q e.0 t))
         | false ↦ λ t. find-made es q
       ] refl
 

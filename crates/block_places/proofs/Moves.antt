@@ -10,7 +10,9 @@ use Rattle.spatial_hash.specs.Contents.{contents}
 use Rattle.block_places.specs.Owners.{block_in, owner_at, voxels_of}
 use Rattle.block_places.specs.Places.{IsPlaced, Places, Slots, blocks_of, cell_of, touched, voxels_by, voxels_in}
 use Rattle.block_places.proofs.Blocks.{get-blocks, has-blocks, is-blocks, keys-blocks, same-blocks}
-use Rattle.block_places.proofs.Keyed.{by_key, by_number, gone_elsewhere, gone_here, len_gone, len_put, put_elsewhere, put_here, some_of, the_same}
+use Rattle.voxel_block.proofs.KeyLaws.{by_key, gone_elsewhere, gone_here, len_put, put_elsewhere, put_here}
+use Rattle.block_heap.proofs.FreeLists.{by_number}
+use Rattle.block_places.proofs.Keyed.{len_gone, some_of, the_same}
 use Rattle.block_places.proofs.Owning.{IsChanged}
 
 -- ---- a slot with a block comes or goes

@@ -10,21 +10,10 @@ use Rattle.block_heap.specs.declared.cell.Cell.{Cell}
 use Rattle.block_heap.specs.declared.cell.Cell.TheVariants.{Free, Owned}
 use Rattle.block_heap.specs.Cells.{Cells, content, drawn, given_up, given_up_with, has_free, is_free_at}
 use Rattle.block_heap.specs.HeapLending.{with_block_at, with_block_in}
+use Rattle.block_heap.proofs.FreeLists.{slice_get-set, slice_get-set_other}
 use Rattle.block_places.specs.Owners.{owner_at}
 
 -- ---- lists of cells
-
-get-set_here : (cells : List Cell) (m : ℕ) (c : Cell) → m < length cells → slice_get (set cells m c) m ≡ Some c
-get-set_here [] m c below = absurd (omega arith)
-get-set_here (x ∷ xs) zero c below = refl
-get-set_here (x ∷ xs) (suc m) c below = get-set_here xs m c (omega arith)
-
-get-set_elsewhere : (cells : List Cell) (m n : ℕ) (c : Cell) → n ≢ m → slice_get (set cells m c) n ≡ slice_get cells n
-get-set_elsewhere [] m n c other = refl
-get-set_elsewhere (x ∷ xs) zero zero c other = absurd (other refl)
-get-set_elsewhere (x ∷ xs) zero (suc n) c other = refl
-get-set_elsewhere (x ∷ xs) (suc m) zero c other = refl
-get-set_elsewhere (x ∷ xs) (suc m) (suc n) c other = get-set_elsewhere xs m n c (λ e. other (ap suc e))
 
 owned_below : (cells : List Cell) (n : ℕ) (o : BlockKey × List Voxel) → option_and_then content (slice_get cells n) ≡ Some o → n < length cells
 owned_below [] n o e = absurd (cc)
@@ -70,8 +59,8 @@ written_count h n o w e = ap (λ (g : Cells). length g.cells) (written h n o w e
 pub rewritten : (h : Cells) (n : ℕ) (o : BlockKey × List Voxel) (w : List Voxel) → owner_at h n ≡ Some o → IsChanged h (with_block_at h n w) n (Some (o.0, w))
 unfolding owner_at
 rewritten h n o w e = subst (λ u. IsChanged h u n (Some (o.0, w))) (sym (written h n o w e)) (record {
-  here = ap (option_and_then content) (get-set_here h.cells n (Owned o.0 w) (owned_below h.cells n o e));
-  others = λ m other. ap (option_and_then content) (get-set_elsewhere h.cells n m (Owned o.0 w) other);
+  here = ap (option_and_then content) (slice_get-set h.cells n (Owned o.0 w) (owned_below h.cells n o e));
+  others = λ m other. ap (option_and_then content) (slice_get-set_other h.cells n m (Owned o.0 w) other);
   count = length-set h.cells n (Owned o.0 w);
 })
 
@@ -84,8 +73,8 @@ unfolding owner_at
 set_twice h n c d free low =
     let count : length (set h.cells n c) ≡ length h.cells = length-set h.cells n c in
     record {
-      here = ap (option_and_then content) (get-set_here (set h.cells n c) n d (omega arith));
-      others = λ m other. ap (option_and_then content) (get-set_elsewhere (set h.cells n c) n m d other ∙ get-set_elsewhere h.cells n m c other);
+      here = ap (option_and_then content) (slice_get-set (set h.cells n c) n d (omega arith));
+      others = λ m other. ap (option_and_then content) (slice_get-set_other (set h.cells n c) n m d other ∙ slice_get-set_other h.cells n m c other);
       count = length-set (set h.cells n c) n d ∙ count;
     }
 
@@ -94,7 +83,7 @@ left_is : (h : Cells) (n : ℕ) (o : BlockKey × List Voxel) (w : List Voxel) �
     → given_up (with_block_at h n w) n ≡ record { cells = set (set h.cells n (Owned o.0 w)) n (Free w); free = h.free ++ n ∷ [] }
 left_is h n o w e =
     let g : Cells = record { cells = set h.cells n (Owned o.0 w); free = h.free } in
-    ap (λ u. given_up u n) (written h n o w e) ∙ ap (λ u. given_up_with g n (option_and_then content u)) (get-set_here h.cells n (Owned o.0 w) (owned_below h.cells n o e))
+    ap (λ u. given_up u n) (written h n o w e) ∙ ap (λ u. given_up_with g n (option_and_then content u)) (slice_get-set h.cells n (Owned o.0 w) (owned_below h.cells n o e))
 
 pub left : (h : Cells) (n : ℕ) (o : BlockKey × List Voxel) (w : List Voxel) → owner_at h n ≡ Some o → IsChanged h (given_up (with_block_at h n w) n) n None
 unfolding owner_at
@@ -107,7 +96,7 @@ left_free h n o w e = ap (λ (u : Cells). length u.free) (left_is h n o w e) ∙
 -- the heap after a key drew a free cell and its block was written there
 entered_is : (h : Cells) (k : BlockKey) (n : ℕ) (v : List Voxel) → n < length h.cells
     → with_block_at (drawn h k (Some n)) n v ≡ record { cells = set (set h.cells n (Owned k new_block)) n (Owned k v); free = take (length h.free - 1) h.free }
-entered_is h k n v low = written (drawn h k (Some n)) n (k, new_block) v (ap (option_and_then content) (get-set_here h.cells n (Owned k new_block) low))
+entered_is h k n v low = written (drawn h k (Some n)) n (k, new_block) v (ap (option_and_then content) (slice_get-set h.cells n (Owned k new_block) low))
 
 pub entered : (h : Cells) (k : BlockKey) (n : ℕ) (v : List Voxel) → n < length h.cells → IsChanged h (with_block_at (drawn h k (Some n)) n v) n (Some (k, v))
 entered h k n v low = subst (λ u. IsChanged h u n (Some (k, v))) (sym (entered_is h k n v low)) (set_twice h n (Owned k new_block) (Owned k v) (take (length h.free - 1) h.free) low)

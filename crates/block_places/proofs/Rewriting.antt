@@ -6,7 +6,7 @@ use Rattle.std.specs.BTreeMap.{is_at}
 use Rattle.std.specs.Map.{set_value}
 use Rattle.std.proofs.lemmas.Map.Steps.{set_value_same}
 use Rattle.voxel_block.specs.Keys.{key_cmp}
-use Rattle.voxel_block.proofs.KeyLaws.{get_key}
+use Rattle.voxel_block.proofs.KeyLaws.{by_key, get_key, put_elsewhere, put_here}
 use Rattle.std.specs.FinMap.{contains_key, get, insert, keys}
 use Rattle.voxel_block.specs.declared.key.BlockKey.{BlockKey}
 use Rattle.voxel_block.specs.declared.voxel.Voxel.{Voxel}
@@ -18,7 +18,8 @@ use Rattle.block_places.specs.Owners.{block_in, owner_at, voxels_of}
 use Rattle.block_places.specs.Places.{IsPlaced, Places, blocks_of, cell_of, slots_of, voxels_by, voxels_in}
 use Rattle.block_places.specs.Lending.{KeepsPlaces, with_block_by, with_block_in, with_block_of}
 use Rattle.block_places.proofs.Blocks.{get-blocks, has-blocks, is-blocks, same-keys}
-use Rattle.block_places.proofs.Keyed.{by_key, by_number, put_elsewhere, put_here, some_of, the_same}
+use Rattle.block_heap.proofs.FreeLists.{by_number}
+use Rattle.block_places.proofs.Keyed.{some_of, the_same}
 use Rattle.block_places.proofs.Moves.{blocks_with, owner_of, placed_with, same_voxels, with_slots}
 use Rattle.block_places.proofs.Trees.{found_in, written_there}
 use Rattle.block_places.proofs.Owning.{IsChanged, rewritten, rewritten_free}

@@ -125,7 +125,7 @@ averaged_read mu n eta v m d w fits eta_fits is em mb ed db ew =
 
 -- what has a weight is a voxel
 pub weighted_is_voxel : (m : ℤ) (n w top : ℕ) → IsWithin (pos 32767) m → w ≡ min (n + 1) top → 1 ≤ top → IsVoxel (record { f = read16 m; w = w })
-weighted_is_voxel m n w top b e h = record { in_range = λ x. outside m b x; unseen = λ z. absurd (weighs n w top e h z) }
+weighted_is_voxel m n w top b e h = record { in_range = λ x. outside m b x; unobserved = λ z. absurd (weighs n w top e h z) }
   where
     outside : (m : ℤ) → IsWithin (pos 32767) m → read16 m ≡ negsuc 32767 → ⊥
     outside m b x = let same = same16 m b in let is : m ≡ negsuc 32767 = sym same ∙ x in omega (arith, ints)

@@ -30,7 +30,7 @@ pub fn update_block(
     requires weight { 1 ≤ max_weight }
     ensures { block.new ≡ updated (view_of camera.now pose.now frame.now) max_weight key block.old }
 {
-    block.has_all_voxels();
+    let _ = block.len();
     if !camera.may_see(pose, key) {
         return;
     }

@@ -11,7 +11,7 @@ use Rattle.voxel_block.proofs.KeyLaws.{keys_total}
 use Rattle.spatial_hash.specs.Contents.{contents}
 use Rattle.block_places.specs.Places.{IsPlaced, Places, blocks_of}
 use Rattle.block_places.proofs.Blocks.{has-blocks}
-use Rattle.block_places.proofs.Keyed.{len_put}
+use Rattle.voxel_block.proofs.KeyLaws.{len_put}
 use Rattle.session.specs.declared.frame.Frame.{Frame}
 use Rattle.session.specs.Frames.{is_active}
 use Rattle.session.specs.Maps.{active_count}

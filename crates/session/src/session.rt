@@ -9,7 +9,7 @@ ghost use Rattle.spatial_hash.specs.Contents.{contents};
 ghost use Rattle.voxel_block.specs.declared.key.BlockKey.{BlockKey as Key};
 ghost use Rattle.session.specs.Frames.{is_active};
 ghost use Rattle.std.specs.FinMap.{contains_key, empty};
-ghost use Rattle.spatial_hash.specs.Table.{empty as empty_table};
+ghost use Rattle.spatial_hash.specs.Table.{empty_table};
 ghost use Rattle.block_heap.specs.Cells.{new_cells};
 ghost use Rattle.block_places.specs.Places.{IsPlaced, blocks_of};
 ghost use Rattle.session.specs.Rooms.{IsPlan};

@@ -6,7 +6,7 @@ use Rattle.spatial_hash.specs.Hash.{home}
 use Rattle.spatial_hash.specs.Table.{Table, entries_in, key_word, link_word}
 use Rattle.spatial_hash.specs.Changes.{written}
 use Rattle.spatial_hash.specs.Sound.{IsStep, Leads, EndsAt, IsSound}
-use Rattle.spatial_hash.specs.Spot.{IsFreeAt, IsNew}
+use Rattle.spatial_hash.specs.Lookup.{IsFreeAt, IsNew}
 use Rattle.spatial_hash.proofs.Places.{nowhere}
 
 -- ---- what is led to stays so where each step stays
@@ -14,18 +14,18 @@ use Rattle.spatial_hash.proofs.Places.{nowhere}
 abbrev pub with : Table → List ℕ → List ℕ → ℕ → Table
 with t ws cs l = record t { words = ws; cells = cs; linked = l }
 
-pub leads-kept : (t : Table) (ws cs : List ℕ) (l h : ℕ) → ((j n : ℕ) → IsStep t h j n → IsStep (with t ws cs l) h j n)
+pub leads_kept : (t : Table) (ws cs : List ℕ) (l h : ℕ) → ((j n : ℕ) → IsStep t h j n → IsStep (with t ws cs l) h j n)
     → (ns : List ℕ) (j k : ℕ) → Leads t h j ns k → Leads (with t ws cs l) h j ns k
-leads-kept t ws cs l h f [] j k r = r
-leads-kept t ws cs l h f (n ∷ ns) j k r = (f j n r.0, leads-kept t ws cs l h f ns (t.buckets + n) k r.1)
+leads_kept t ws cs l h f [] j k r = r
+leads_kept t ws cs l h f (n ∷ ns) j k r = (f j n r.0, leads_kept t ws cs l h f ns (t.buckets + n) k r.1)
 
 -- ---- keys that differ
 
 abbrev pub Differ : List ℕ → ℕ → Type 0
 Differ ws top = (d e : ℕ) → d < top → e < top → 0 < get_or ws d 0 → get_or ws d 0 ≡ get_or ws e 0 → d ≡ e
 
-pub differ-set : (ws : List ℕ) (top at w : ℕ) → at < length ws → ((d : ℕ) → d < top → get_or ws d 0 ≢ w) → Differ ws top → Differ (set ws at w) top
-differ-set ws top at w within new old d e ld le f same =
+pub differ_set : (ws : List ℕ) (top at w : ℕ) → at < length ws → ((d : ℕ) → d < top → get_or ws d 0 ≢ w) → Differ ws top → Differ (set ws at w) top
+differ_set ws top at w within new old d e ld le f same =
     elim (cases_eq d at) [
       | inl da ↦ elim (cases_eq e at) [
         | inl ea ↦ da ∙ sym ea
@@ -44,7 +44,7 @@ differ-set ws top at w within new old d e ld le f same =
 
 module _ (t : Table) (w c e : ℕ) (s : IsSound t) (new : IsNew t w) (at : IsFreeAt t (home t.buckets w) e) where
   pub low : e < 4 * t.buckets
-  low = let p : at.place < 4 = at.low in let q : e ≡ 4 * home t.buckets w + at.place = at.here in let r : home t.buckets w < t.buckets = new.at_home in omega arith
+  low = let p : at.index < 4 = at.low in let q : e ≡ 4 * home t.buckets w + at.index = at.here in let r : home t.buckets w < t.buckets = new.at_home in omega arith
 
   inside : e < length t.words
   inside = let l = low in let q : length t.words ≡ 5 * t.buckets + 2 * t.nodes = s.wide in omega arith
@@ -78,14 +78,14 @@ module _ (t : Table) (w c e : ℕ) (s : IsSound t) (new : IsNew t w) (at : IsFre
   }
 
   leads : (h : ℕ) (ns : List ℕ) (j k : ℕ) → Leads t h j ns k → Leads (written t e w c) h j ns k
-  leads h ns j k r = leads-kept t (set t.words e w) (set t.cells e c) t.linked h (step h) ns j k r
+  leads h ns j k r = leads_kept t (set t.words e w) (set t.cells e c) t.linked h (step h) ns j k r
 
   prefixed : (h i : ℕ) → h < t.buckets → i < 3 → 0 < key_word (written t e w c) (4 * h + suc i) → 0 < key_word (written t e w c) (4 * h + i)
   prefixed h i lt li f =
       elim (cases_eq (4 * h + suc i) e) [
         | inl q ↦ (
-            let q1 : e ≡ 4 * home t.buckets w + at.place = at.here in
-            let q2 : at.place < 4 = at.low in
+            let q1 : e ≡ 4 * home t.buckets w + at.index = at.here in
+            let q2 : at.index < 4 = at.low in
             let hh : h ≡ home t.buckets w = omega arith in
             let b : 0 < key_word t (4 * home t.buckets w + i) = at.before i (omega arith) in
             more (4 * h + i) (rw hh b))
@@ -96,8 +96,8 @@ module _ (t : Table) (w c e : ℕ) (s : IsSound t) (new : IsNew t w) (at : IsFre
   homed h i lt li f =
       elim (cases_eq (4 * h + i) e) [
         | inl q ↦ (
-            let q1 : e ≡ 4 * home t.buckets w + at.place = at.here in
-            let q2 : at.place < 4 = at.low in
+            let q1 : e ≡ 4 * home t.buckets w + at.index = at.here in
+            let q2 : at.index < 4 = at.low in
             let hh : home t.buckets w ≡ h = omega arith in
             ap (home t.buckets) (ap (key_word (written t e w c)) q ∙ here) ∙ hh)
         | inr ne ↦ ap (home t.buckets) (there (4 * h + i) ne) ∙ s.at_home h i lt li (rw (there (4 * h + i) ne) at f)
@@ -113,8 +113,8 @@ module _ (t : Table) (w c e : ℕ) (s : IsSound t) (new : IsNew t w) (at : IsFre
   ended : (h k : ℕ) → EndsAt t h k → EndsAt (written t e w c) h k
   ended h k r = record { over = r.over; leads = leads h r.over h k r.leads; none = links k ∙ r.none; few = r.few }
 
-  pub filled-sound : IsSound (written t e w c)
-  filled-sound = record {
+  pub filled_sound : IsSound (written t e w c)
+  filled_sound = record {
     some_buckets = s.some_buckets;
     few_buckets = s.few_buckets;
     few_nodes = s.few_nodes;
@@ -122,12 +122,13 @@ module _ (t : Table) (w c e : ℕ) (s : IsSound t) (new : IsNew t w) (at : IsFre
     wide = length-set t.words e w ∙ s.wide;
     long = length-set t.cells e c ∙ s.long;
     named = named;
-    differ = differ-set t.words (entries_in t) e w inside (nowhere t w s new.some new.at_home new.absent) s.differ;
+    differ = differ_set t.words (entries_in t) e w inside (nowhere t w s new.some new.at_home new.absent) s.differ;
     at_home = homed;
     prefix = prefixed;
     full = λ h lt f. more (4 * h + 3) (s.full h lt (rw (links h) at f));
     ends = λ h lt. ((s.ends h lt).0, ended h (s.ends h lt).0 (s.ends h lt).1);
-    placed = λ n lt. more (4 * t.buckets + n) (s.placed n lt);
-    reached = λ n lt. rw (node n) ((s.reached n lt).0, leads (home t.buckets (key_word t (4 * t.buckets + n))) (s.reached n lt).0 (home t.buckets (key_word t (4 * t.buckets + n))) (t.buckets + n) (s.reached n lt).1);
+    placed = λ n lt no. more (4 * t.buckets + n) (s.placed n lt no);
+    reached = λ n lt no. rw (node n) ((s.reached n lt no).0, leads (home t.buckets (key_word t (4 * t.buckets + n))) (s.reached n lt no).0 (home t.buckets (key_word t (4 * t.buckets + n))) (t.buckets + n) (s.reached n lt no).1);
+    hole = λ n h. absurd h;
     free = λ n a b. (node n ∙ (s.free n a b).0, links (t.buckets + n) ∙ (s.free n a b).1);
   }

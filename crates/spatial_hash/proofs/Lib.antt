@@ -2,8 +2,9 @@ pub mod Chains
 pub mod Counts
 pub mod Extending
 pub mod Filling
-pub mod Held
+pub mod Found
 pub mod Homes
+pub mod Inserted
 pub mod Maps
 pub mod Moving
 pub mod NewTables
@@ -11,7 +12,6 @@ pub mod Places
 pub mod RemovalWrites
 pub mod Removed
 pub mod Removing
-pub mod SameKeys
 pub mod Sorted
 pub mod Staying
 pub mod Tails

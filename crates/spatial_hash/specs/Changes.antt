@@ -14,19 +14,19 @@ joined t j v = record t { words = slice_set t.words (4 * t.buckets + t.nodes + j
 abbrev pub extended : Table → ℕ → ℕ → ℕ → Table
 extended t j w c = record (joined (written t (4 * t.buckets + t.linked) w c) j (t.linked + 1)) { linked = t.linked + 1 }
 
--- the table with the key and the cell of entry l at entry e, and l free
+-- the table with the key and the cell of entry l moved to entry e
 abbrev pub taken_to : Table → ℕ → ℕ → Table
 taken_to t e l = record t { words = slice_set (slice_set t.words e (slice_index t.words l)) l 0; cells = slice_set t.cells e (slice_index t.cells l) }
 
--- the table without the key of entry e, where the key of node n comes, which is unlinked at link j
+-- the table without the key of entry e: the key of node n moves there, and the node is unlinked at link j
 abbrev pub cut : Table → ℕ → ℕ → ℕ → Table
 cut t e n j = joined (taken_to t e (4 * t.buckets + n)) j 0
 
--- the table with node m moved to node n, which link j leads to
+-- the table with node m moved to node n, to which link j leads
 abbrev pub renumbered : Table → ℕ → ℕ → ℕ → Table
 renumbered t n m j =
     joined (joined (joined (taken_to t (4 * t.buckets + n) (4 * t.buckets + m)) (t.buckets + n) (slice_index t.words (4 * t.buckets + t.nodes + (t.buckets + m)))) (t.buckets + m) 0) j (n + 1)
 
--- the table with one linked node less
+-- the table with one linked node fewer
 abbrev pub shrunk : Table → Table
 shrunk t = record t { linked = t.linked - 1 }

@@ -5,13 +5,13 @@ use Rattle.std.specs.Int.{int_rem_euclid}
 use Rattle.voxel_block.specs.declared.key.BlockKey.{BlockKey}
 use Rattle.voxel_block.specs.Words.{key_of}
 
--- a coordinate times a factor, modulo 2^32
-abbrev pub scaled : ℤ → ℤ → ℕ
-scaled a m = unsigned_abs (int_rem_euclid (a *ℤ m) (pos (2 ^ 32)))
+-- what one axis adds to the hash: the coordinate times the factor, modulo 2^32
+abbrev pub hash_axis : ℤ → ℤ → ℕ
+hash_axis a m = unsigned_abs (int_rem_euclid (a *ℤ m) (pos (2 ^ 32)))
 
--- the bucket of a key, among so many
+-- the bucket of a key, where there are this many
 abbrev pub bucket_of : ℕ → BlockKey → ℕ
-bucket_of buckets k = bit_xor (bit_xor (scaled k.x (pos 73856093)) (scaled k.y (pos 19349669))) (scaled k.z (pos 83492791)) % buckets
+bucket_of buckets k = bit_xor (bit_xor (hash_axis k.x (pos 73856093)) (hash_axis k.y (pos 19349669))) (hash_axis k.z (pos 83492791)) % buckets
 
 -- the bucket of a key where there is one, and 0 where there is none
 abbrev pub home_in : ℕ → Option BlockKey → ℕ

@@ -2,8 +2,8 @@ pub mod Changes
 pub mod Contents
 pub mod Hash
 pub mod Removal
-pub mod Seen
+pub mod View
 pub mod Sound
-pub mod Spot
+pub mod Lookup
 pub mod Table
 pub mod Walk

@@ -1,4 +1,4 @@
--- What a removal finds before it writes.
+-- What a removal knows before it writes.
 use Rattle.std.specs.Prelude.{◌≡◌, ℕ, suc, ◌+◌, ◌*◌, ◌<◌, List}
 use Rattle.spatial_hash.specs.Hash.{home}
 use Rattle.spatial_hash.specs.Table.{Table, entries_in, key_word, link_word}
@@ -15,11 +15,11 @@ pub record IsLast (t : Table) (h e l : ℕ) : Type 0 where
 
 -- l is the last filled entry of a bucket that has no chain
 pub record IsBucketEnd (t : Table) (h l : ℕ) : Type 0 where
-  pub place : ℕ
-  pub low : place < 4
-  pub here : l ≡ 4 * h + place
+  pub index : ℕ
+  pub low : index < 4
+  pub here : l ≡ 4 * h + index
   pub filled : 0 < key_word t l
-  pub behind : place < 3 → key_word t (4 * h + suc place) ≡ 0
+  pub after : index < 3 → key_word t (4 * h + suc index) ≡ 0
 
 -- n is the last node of the chain of bucket h, and link j leads to it
 pub record IsChainEnd (t : Table) (h n j : ℕ) : Type 0 where

@@ -1,7 +1,7 @@
--- What a hash table is to its callers: its words, the cell of each entry, and how many nodes are linked.
--- The key word of entry e is word e. Entry i of bucket h is number 4 h + i, node n is number 4 buckets + n.
--- The links stand behind the key words: first one for each bucket, then one for each node.
-use Rattle.std.specs.Prelude.{ℕ, ◌+◌, ◌-◌, ◌*◌, ◌^◌, List, slice_index, replicate}
+-- What a hash table is to its callers: its words, the cell of each entry, and the number of linked nodes.
+-- Word e is the key word of entry e. Entry i of bucket h is number 4 h + i, node n is number 4 buckets + n.
+-- The links follow the key words: one for each bucket, and then one for each node.
+use Rattle.std.specs.Prelude.{◌≡◌, ℕ, ◌+◌, ◌-◌, ◌*◌, ◌^◌, List, slice_index, replicate}
 
 -- a hash table
 pub record Table : Type 0 where
@@ -19,10 +19,15 @@ entries_in t = 4 * t.buckets + t.nodes
 abbrev pub key_word : Table → ℕ → ℕ
 key_word t e = slice_index t.words e
 
--- the word of a link, 0 for none, else one more than the node: link h is that of bucket h, link buckets + n that of node n
+-- the word of a link, 0 for none, else the node's number plus 1: link h is that of bucket h, link buckets + n is that of node n
 abbrev pub link_word : Table → ℕ → ℕ
 link_word t j = slice_index t.words (4 * t.buckets + t.nodes + j)
 
--- the table of this size with no key, and no cell at any entry
-abbrev pub empty : ℕ → ℕ → Table
-empty buckets nodes = record { buckets = buckets; nodes = nodes; linked = 0; words = replicate (5 * buckets + 2 * nodes) 0; cells = replicate (4 * buckets + nodes) (2 ^ 32 - 1) }
+-- the table of this size without keys and cells
+abbrev pub empty_table : ℕ → ℕ → Table
+empty_table buckets nodes = record { buckets = buckets; nodes = nodes; linked = 0; words = replicate (5 * buckets + 2 * nodes) 0; cells = replicate (4 * buckets + nodes) (2 ^ 32 - 1) }
+
+-- the number of buckets and the number of nodes stay
+pub record KeepsSize (old new : Table) : Type 0 where
+  pub buckets : new.buckets ≡ old.buckets
+  pub nodes : new.nodes ≡ old.nodes

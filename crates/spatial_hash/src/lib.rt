@@ -3,7 +3,7 @@
 
 mod full;
 mod linked_node;
-mod spot;
+mod lookup;
 mod table;
 
 pub use full::Full;

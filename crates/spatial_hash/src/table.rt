@@ -4,7 +4,7 @@ ghost use Rattle.std.specs.List.{IsDistinct};
 ghost use Rattle.std.specs.List.Sorted.{IsStrictlySortedBy};
 ghost use Rattle.std.specs.Int.{IsPowerOfTwo};
 
-use crate::spot::Spot;
+use crate::lookup::Lookup;
 use std::alloc::{AllocError, Global};
 use std::marker::Model;
 use voxel_block::{BlockKey, NoMemory};
@@ -13,23 +13,24 @@ mod inserting;
 mod removing;
 mod seeking;
 
-/// A map from keys to cells, by number, with `u32::MAX` for none.
+/// A map from keys to cell numbers, with `u32::MAX` for no cell.
 ///
-/// A key stands in the bucket of its hash. A bucket has four entries, and where these are filled a
-/// chain of nodes, which the buckets share. Entry i of bucket h has the number 4h + i, and node n has
-/// the number 4 * buckets + n. A bucket's walk goes over its entries and then over its chain: the
-/// filled entries come first, and the linked nodes are those whose numbers are below their count.
+/// A key belongs to the bucket of its hash. A bucket has four entries, and a chain of nodes where these are
+/// filled. The buckets share the nodes, and each node is one more entry: entry i of bucket h has the number
+/// 4h + i, and node n has the number 4 * buckets + n. The walk of a bucket goes over its entries and then
+/// over its chain. In a bucket the filled entries come first, and the linked nodes are those with the lowest
+/// numbers.
 ///
 /// The hash is the exclusive or of three multiplied coordinates (Nießner, Zollhöfer, Izadi and
-/// Stamminger 2013). Its factors, each product modulo 2^32, as well as four entries a bucket and a power
-/// of two of buckets, are this project's own.
+/// Stamminger 2013). Its factors, each product modulo 2^32, four entries a bucket, and a power of two of
+/// buckets are this project's own.
 #[derive(Drop)]
 pub struct HashTable {
     buckets: usize,
     nodes: usize,
     /// The nodes that are linked, each of which has a key.
     linked: usize,
-    /// The key word of each entry, 0 where it is free, then the link of each bucket and of each node,
+    /// The key word of each entry, 0 where it is free, and then the link of each bucket and of each node,
     /// 0 for none, else the node's number plus 1.
     words: Vec<u64>,
     /// The cell of each entry.
@@ -41,17 +42,17 @@ impl Model for HashTable {
 
     ghost Value = { Table };
 
-    ghost use Rattle.spatial_hash.specs.Seen.{seen};
+    ghost use Rattle.spatial_hash.specs.View.{table_view};
     ghost use Rattle.spatial_hash.specs.Sound.{IsSound};
 
-    ghost view = { seen };
+    ghost view = { table_view };
 
-    ghost invariant = { λ t. IsSound (seen t) };
+    ghost invariant = { λ t. IsSound (table_view t) };
 }
 
 impl HashTable {
-    ghost use Rattle.spatial_hash.specs.Table.{empty, entries_in, key_word};
-    ghost use Rattle.spatial_hash.specs.Walk.{place_of};
+    ghost use Rattle.spatial_hash.specs.Table.{empty_table, entries_in, key_word};
+    ghost use Rattle.spatial_hash.specs.Walk.{entry_of};
     ghost use Rattle.spatial_hash.specs.Contents.{contents, pairs_from, tied, IsKeyAt};
     ghost use Rattle.spatial_hash.specs.Sound.{IsSound};
     ghost use Rattle.voxel_block.specs.Keys.{key_cmp};
@@ -61,7 +62,7 @@ impl HashTable {
         requires power { IsPowerOfTwo buckets }
         requires buckets { buckets ≤ 65536 }
         requires nodes { nodes ≤ 1000000 }
-        ensures table { IfOk result (λ t. t ≡ empty buckets nodes) }
+        ensures table { IfOk result (λ t. t ≡ empty_table buckets nodes) }
         ensures map { IfOk result (λ t. contents t ≡ no_keys) }
     {
         let buckets = buckets as usize;
@@ -77,16 +78,16 @@ impl HashTable {
         })
     }
 
-    /// The entry of a key. `None` where the key is not held.
-    #[tactic(auto, unfolding(crate::specs::Walk::place_of))]
+    /// The entry of a key. `None` where the table does not have the key.
+    #[tactic(auto, unfolding(crate::specs::Walk::entry_of))]
     pub fn find(&self, key: BlockKey) -> Option<u32>
-        ensures place { result ≡ place_of self.now key }
+        ensures entry { result ≡ entry_of self.now key }
         ensures cell { MatchOption result (get (contents self.now) key ≡ None) (λ e. get (contents self.now) key ≡ Some (slice_index self.now.cells e)) }
-        ensures entry { IfSome result (λ e. IsKeyAt self.now key e) }
+        ensures key { IfSome result (λ e. IsKeyAt self.now key e) }
     {
         match self.seek(key) {
-            Spot::Held(entry) => Some(entry as u32),
-            Spot::Free(_) | Spot::Behind(_) => None,
+            Lookup::Found(entry) => Some(entry as u32),
+            Lookup::Vacant(_) | Lookup::ChainEnd(_) => None,
         }
     }
 
@@ -123,13 +124,13 @@ impl HashTable {
         self.cells[e as usize]
     }
 
-    /// Gives a filled entry another cell.
+    /// Sets the cell of a filled entry.
     pub fn set_cell(&mut self, e: u32, cell: u32)
         requires low { e < entries_in self.old }
         requires filled { 0 < key_word self.old e }
         ensures table { self.new ≡ record self.old { cells = slice_set self.old.cells e cell } }
         ensures map { (k : BlockKey) → IsKeyAt self.old k e → contents self.new ≡ insert (contents self.old) k cell }
-        ensures places { (k : BlockKey) → place_of self.new k ≡ place_of self.old k }
+        ensures entries { (k : BlockKey) → entry_of self.new k ≡ entry_of self.old k }
     {
         self.cells[e as usize] = cell;
     }
@@ -157,8 +158,8 @@ impl HashTable {
         self.linked as u32
     }
 
-    /// Word `w` of the table: the key word of each entry, 0 where it is free, then the link of each
-    /// bucket and of each node, 0 for none, else the node's number plus 1.
+    /// Word `w` of the table. The words are the key word of each entry, 0 where it is free, and then the link
+    /// of each bucket and of each node, 0 for none, else the node's number plus 1.
     pub fn word_at(&self, w: u32) -> u64
         requires { w < 5 * self.now.buckets + 2 * self.now.nodes }
         ensures { result ≡ slice_index self.now.words w }

@@ -16,7 +16,7 @@ fn along_x(x: u8) -> BlockKey {
     }
 }
 
-/// What `insert` answers for a key that is not held.
+/// What `insert` returns, where the table does not have the key.
 fn put(table: &mut HashTable, key: BlockKey, cell: u32) -> Option<Result<u32, Full>>
     ensures { IfSome result (λ r. OnOk r (contents table.new ≡ insert (contents table.old) key cell)) }
 {
@@ -26,7 +26,7 @@ fn put(table: &mut HashTable, key: BlockKey, cell: u32) -> Option<Result<u32, Fu
     }
 }
 
-/// Gives a key that is held another cell.
+/// Sets the cell of a key, where the table has it.
 fn move_to(table: &mut HashTable, key: BlockKey, cell: u32)
     ensures { contents table.new ≡ (if contains_key (contents table.old) key then insert (contents table.old) key cell else contents table.old) }
 {
@@ -49,11 +49,20 @@ fn cell_of(table: &HashTable, key: BlockKey) -> Option<u32>
 fn a_bucket_takes_four_keys(rt: HostRuntime) -> Result<(), Fail> {
     let mut table = HashTable::make(rt.alloc(), 1, 0)?;
     for i in 0..4_u8 {
-        assert_eq!(rt; put(&mut table, along_x(i), 10), Some(Ok(u32::from(i))));
+        assert_eq!(rt;
+            put(&mut table, along_x(i), 10),
+            Some(Ok(u32::from(i))),
+            "key {i}"
+        );
     }
     assert_eq!(rt; put(&mut table, along_x(4), 10), Some(Err(Full)));
+    is_shared(&Full);
+    assert_eq!(rt;
+        format!(in rt.alloc(); "{Full}")?.as_str(),
+        "no entry is left for the key"
+    );
     for i in 0..4_u8 {
-        assert_eq!(rt; table.find(along_x(i)), Some(u32::from(i)));
+        assert_eq!(rt; table.find(along_x(i)), Some(u32::from(i)), "key {i}");
     }
     assert_eq!(rt; table.find(along_x(4)), None);
     Ok(())
@@ -61,18 +70,22 @@ fn a_bucket_takes_four_keys(rt: HostRuntime) -> Result<(), Fail> {
 
 #[test]
 fn a_key_goes_to_its_bucket(rt: HostRuntime) -> Result<(), Fail> {
-    for (x, y, z, entry) in [(0, -12, 12, 0), (0, 0, 12, 16), (0, 0, 13, 44)] {
+    for (name, x, y, z, entry) in [
+        ("two axes", 0, -12, 12, 0),
+        ("one axis", 0, 0, 12, 16),
+        ("its neighbour", 0, 0, 13, 44),
+    ] {
         let mut table = HashTable::make(rt.alloc(), 16, 4)?;
         is_shared(&table);
         assert_eq!(rt; (table.buckets(), table.nodes()), (16, 4));
         let key = BlockKey { x, y, z };
-        assert_eq!(rt; put(&mut table, key, u32::MAX), Some(Ok(entry)));
+        assert_eq!(rt; put(&mut table, key, u32::MAX), Some(Ok(entry)), "{name}");
         if let Some(e) = table.find(key) {
             assert_eq!(rt; table.word_at(e), key.word());
         }
-        assert_eq!(rt; cell_of(&table, key), Some(u32::MAX));
+        assert_eq!(rt; cell_of(&table, key), Some(u32::MAX), "{name}");
         move_to(&mut table, key, 5);
-        assert_eq!(rt; cell_of(&table, key), Some(5));
+        assert_eq!(rt; cell_of(&table, key), Some(5), "{name}");
     }
     Ok(())
 }
@@ -95,7 +108,7 @@ fn a_removed_key_leaves_the_others(rt: HostRuntime) -> Result<(), Fail> {
         (along_x(5), 5),
     ];
     for (key, cell) in left {
-        assert_eq!(rt; cell_of(&table, key), Some(cell));
+        assert_eq!(rt; cell_of(&table, key), Some(cell), "cell {cell}");
     }
     let entries = table.entries(rt.alloc())?;
     assert_eq!(rt; entries.as_slice(), left.as_slice());
@@ -112,7 +125,7 @@ fn the_highest_node_fills_a_hole(rt: HostRuntime) -> Result<(), Fail> {
     assert!(rt; table.remove(along_x(0)));
     assert_eq!(rt; table.linked(), 1);
     for x in 1..10_u8 {
-        assert_eq!(rt; cell_of(&table, along_x(x)), Some(u32::from(x)));
+        assert_eq!(rt; cell_of(&table, along_x(x)), Some(u32::from(x)), "key {x}");
     }
     assert!(rt; matches!(put(&mut table, along_x(11), 11), Some(Ok(_))));
     assert_eq!(rt; table.linked(), 2);

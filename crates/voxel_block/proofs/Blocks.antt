@@ -1,26 +1,17 @@
 -- What a loop over the voxels of a block needs.
 use Rattle.std.proofs.Common.{◌≡◌, ℕ, zero, suc, ◌+◌, ◌*◌, ◌/◌, ◌%◌, ◌<◌, List, [], ◌∷◌, ◌++◌, length, set, take, drop, map, refl, ap, sym, subst, ◌∙◌, arith}
-use Rattle.std.specs.Prelude.{Some, None, All, slice_get}
+use Rattle.std.specs.Prelude.{Some, None, slice_get}
 use Rattle.std.specs.List.{enumerate_from}
 use Rattle.std.proofs.lemmas.List.{length-replicate, length-set}
-use Rattle.std.proofs.lemmas.List.Elements.{All-replicate, All-map}
-use Rattle.std.proofs.lemmas.List.FromFn.{length-enumerate_from, get_or-enumerate_from}
-use Rattle.voxel_block.specs.Voxels.{IsVoxel, new_voxel}
+use Rattle.voxel_block.specs.Voxels.{new_voxel}
 use Rattle.voxel_block.specs.Blocks.{new_block, by_index, Offset, index_of, offset_of}
-use Rattle.voxel_block.proofs.VoxelLists.{new_voxel_is_voxel}
 
 -- ---- new blocks
 
 pub length-new_block : length new_block ≡ 512
 length-new_block = length-replicate 512 new_voxel
 
-pub all_new_block : All IsVoxel new_block
-all_new_block = All-replicate IsVoxel 512 new_voxel new_voxel_is_voxel
-
 -- ---- indices
-
-pub index_of-offset_of : (i : ℕ) → index_of (offset_of i) ≡ i
-index_of-offset_of i = omega arith
 
 pub offset_of-index_of : (x y z : ℕ) → x < 8 → y < 8 → offset_of (index_of (record { x = x; y = y; z = z })) ≡ record { x = x; y = y; z = z }
 offset_of-index_of x y z p q =
@@ -28,9 +19,6 @@ offset_of-index_of x y z p q =
     let b : (x + 8 * y + 64 * z) / 8 % 8 ≡ y = omega arith in
     let c : (x + 8 * y + 64 * z) / 64 ≡ z = omega arith in
     λ k. record { x = a k; y = b k; z = c k }
-
-pub index_of-lt : (o : Offset) → o.x < 8 → o.y < 8 → o.z < 8 → index_of o < 512
-index_of-lt o p q r = omega arith
 
 -- the coordinates of an index are below 8
 pub record IsInside (o : Offset) : Type 0 where
@@ -68,21 +56,6 @@ module _ {X : Type 0} (f : ℕ → X → X) where
   pub by_index-unchanged : (xs : List X) → ((i : ℕ) (x : X) → slice_get xs i ≡ Some x → f i x ≡ x) → by_index f xs ≡ xs
   by_index-unchanged xs h = by_index-same f (λ _ x. x) xs h ∙ unchanged_from 0 xs
 
-  get_from : (n i m : ℕ) (xs : List X) (x : X) → slice_get xs i ≡ Some x → m ≡ n + i → slice_get (by_index_from f n xs) i ≡ Some (f m x)
-  get_from n i m [] x is at = absurd (let e : ◌≡◌ None (Some x) = is in cc)
-  get_from n zero m (y ∷ xs) x is at = let same : y ≡ x = cc in let e : n ≡ m = omega arith in λ k. Some (f (e k) (same k))
-  get_from n (suc i) m (y ∷ xs) x is at = get_from (n + 1) i m xs x is (omega arith)
-
-  pub slice_get-by_index : (xs : List X) (i : ℕ) (x : X) → slice_get xs i ≡ Some x → slice_get (by_index f xs) i ≡ Some (f i x)
-  slice_get-by_index xs i x is = get_from 0 i i xs x is (omega arith)
-
-  -- what the rule keeps true of each element
-  pub All-by_index : (P : X → Type 0) → ((i : ℕ) (x : X) → P x → P (f i x)) → (xs : List X) → All P xs → All P (by_index f xs)
-  All-by_index P keeps xs all = All-map P (λ p. f p.0 p.1) (enumerate_from 0 xs) (λ k d below.
-      let within : k < length xs = omega (arith, length-enumerate_from 0 xs) in
-      let Q : ℕ × X → Type 0 = λ p. P (f p.0 p.1) in
-      subst Q (sym (get_or-enumerate_from 0 xs k d within)) (keeps (0 + k) _ (all k d.1 within)))
-
 -- ---- a loop that changes each element by its index
 
 module _ {X : Type 0} (f : ℕ → X → X) where
@@ -104,9 +77,6 @@ module _ {X : Type 0} (f : ℕ → X → X) where
   length_there n zero xs = refl
   length_there n (suc i) [] = refl
   length_there n (suc i) (x ∷ xs) = ap suc (length_there (n + 1) i xs)
-
-  pub length-by_index : (xs : List X) → length (by_index f xs) ≡ length xs
-  length-by_index xs = sym (ap length (all_there 0 xs)) ∙ length_there 0 (length xs) xs
 
   -- ys is xs with the first i of its elements changed; a step tells that there are `count`
   pub record IsChangedTo (count : ℕ) (xs ys : List X) (i : ℕ) : Type 0 where

@@ -1,31 +1,49 @@
 -- Keys that compare alike are one, and a list of entries read as a map.
-use Rattle.std.proofs.Common.{◌≡◌, ℤ, refl, sym, ap, ◌∙◌, List, [], ◌∷◌, length, map, true, false, cond}
+use Rattle.std.proofs.Common.{◌≡◌, ◌≢◌, ◌+◌, ℤ, inl, inr, refl, sym, ap, ◌∙◌, List, [], ◌∷◌, length, true, false, cond}
 use Rattle.std.specs.Prelude.{Some, None}
-use Rattle.std.specs.Option.{option_map}
-use Rattle.std.specs.Ordering.{int_cmp, ordering_then, eq_by_cmp}
+use Rattle.std.specs.Ordering.{int_cmp, ordering_then}
 use Rattle.std.specs.Cmp.{IsTotalOrder, eq_by_cmp_equiv, Equal-is}
 use Rattle.std.specs.List.{AllByRecursion}
 use Rattle.std.specs.List.Sorted.{IsStrictlySortedBy}
 use Rattle.std.specs.declared.cmp.Ordering.TheVariants.{Less}
 use Rattle.std.specs.BTreeMap.{is_at}
-use Rattle.std.specs.Map.{lookup, keys_of, values_of}
-use Rattle.std.specs.FinMap.{empty, entries, keys, values, len, from_entries, get, find, put, insert, remove, same_map, get-from_entries, get-insert, get-remove, entries-insert, len-empty, len-entries}
+use Rattle.std.specs.Map.{lookup, keys_of}
+use Rattle.std.specs.FinMap.{FinMap, contains_key, empty, entries, keys, len, len-insert, from_entries, get, find, put, insert, remove, same_map, get-from_entries, get-insert, get-remove, entries-insert, len-empty, len-entries}
 use Rattle.std.specs.FinMap.Entries.{by_order}
+use Rattle.std.proofs.lemmas.Bool.{cases_Bool, false_from_ne_true}
 use Rattle.std.proofs.lemmas.Map.Lookups.{CmpEqualImpliesEq, exact_pairs, exact_signed}
 use Rattle.std.proofs.lemmas.Map.Keys.{sorted_head, sorted_tail}
 use Rattle.std.proofs.lemmas.Cmp.{on_total, then_total, int_cmp_total}
 use Rattle.std.proofs.lemmas.List.{nil_from_length}
 use Rattle.voxel_block.specs.declared.key.BlockKey.{BlockKey}
-use Rattle.voxel_block.specs.Keys.{key_cmp}
+use Rattle.voxel_block.specs.Keys.{key_cmp, same_key}
 
 -- keys that compare alike are one
 pub exact_keys : CmpEqualImpliesEq key_cmp
 exact_keys a b h = ap (λ (p : ℤ × (ℤ × ℤ)). record { x = p.0; y = p.1.0; z = p.1.1 })
     (exact_pairs int_cmp (λ (p q : ℤ × ℤ). ordering_then (int_cmp p.0 q.0) (int_cmp p.1 q.1)) exact_signed (exact_pairs int_cmp int_cmp exact_signed exact_signed) (a.x, (a.y, a.z)) (b.x, (b.y, b.z)) h)
 
+-- the test says whether two keys are one
+pub same_key_is : (a b : BlockKey) → same_key a b ≡ true → a ≡ b
+same_key_is a b h = exact_keys a b ((Equal-is (key_cmp a b)).0 h)
+
 -- any two keys are in order
 pub keys_total : IsTotalOrder key_cmp
 keys_total = then_total (on_total (λ k. k.x) int_cmp_total) (then_total (on_total (λ k. k.y) int_cmp_total) (on_total (λ k. k.z) int_cmp_total))
+
+pub key_itself : (a : BlockKey) → same_key a a ≡ true
+key_itself a = (eq_by_cmp_equiv keys_total).refl a
+
+pub other_key : (a b : BlockKey) → a ≢ b → same_key a b ≡ false
+other_key a b other = false_from_ne_true _ (λ h. other (same_key_is a b h))
+
+-- a key is this one or another
+pub by_key : (q k : BlockKey) {P : Type 0} → (q ≡ k → P) → (q ≢ k → P) → P
+by_key q k {P} f g =
+    elim (cases_Bool (same_key q k)) [
+      | inl t ↦ f (same_key_is q k t)
+      | inr e ↦ g (λ s. (let z : false ≡ true = sym e ∙ ap (same_key q) (sym s) ∙ key_itself q in absurd (cc)))
+    ]
 
 module _ {X : Type 0} where
   -- the two ways to look a key up in a list of entries agree
@@ -68,25 +86,23 @@ module _ {X : Type 0} where
   pub keys_of_ordered : (es : List (BlockKey × X)) → IsStrictlySortedBy key_cmp (keys_of es) → keys (from_entries {R = key_cmp} es) ≡ keys_of es
   keys_of_ordered es ordered = ap keys_of (entries_of_ordered es ordered)
 
-  pub values_of_ordered : (es : List (BlockKey × X)) → IsStrictlySortedBy key_cmp (keys_of es) → values (from_entries {R = key_cmp} es) ≡ values_of es
-  values_of_ordered es ordered = ap values_of (entries_of_ordered es ordered)
-
   pub len_of_ordered : (es : List (BlockKey × X)) → IsStrictlySortedBy key_cmp (keys_of es) → len (from_entries {R = key_cmp} es) ≡ length es
   len_of_ordered es ordered = len-entries (from_entries {R = key_cmp} es) ∙ ap length (entries_of_ordered es ordered)
 
-module _ {X : Type 0} (g : BlockKey → X → X) where
-  -- values that are changed by a rule that knows their key
-  pub keys_of-changed : (es : List (BlockKey × X)) → keys_of (map (λ e. (e.0, g e.0 e.1)) es) ≡ keys_of es
-  keys_of-changed [] = refl
-  keys_of-changed (e ∷ es) = ap (λ ks. e.0 ∷ ks) (keys_of-changed es)
+-- ---- maps of which one key changes
 
-  find-changed : (es : List (BlockKey × X)) (q : BlockKey) → find key_cmp q (map (λ e. (e.0, g e.0 e.1)) es) ≡ option_map (g q) (find key_cmp q es)
-  find-changed [] q = refl
-  find-changed (e ∷ es) q =
-      elim (eq_by_cmp key_cmp q e.0) as (λ b. eq_by_cmp key_cmp q e.0 ≡ b → cond b (Some (g e.0 e.1)) (find key_cmp q (map (λ e. (e.0, g e.0 e.1)) es)) ≡ option_map (g q) (cond b (Some e.1) (find key_cmp q es))) [
-        | true ↦ λ t. ap (λ k. Some (g k e.1)) (sym (exact_keys q e.0 ((Equal-is (key_cmp q e.0)).0 t)))
-        | false ↦ λ t. find-changed es q
-      ] refl
+module _ {X : Type 0} where
+  pub put_here : (m : FinMap key_cmp X) (k : BlockKey) (v : X) → get (insert m k v) k ≡ Some v
+  put_here m k v = get-insert keys_total m k v k ∙ ap (λ b. cond b (Some v) (get m k)) (key_itself k)
 
-  pub get-changed : (es : List (BlockKey × X)) (q : BlockKey) → get (from_entries {R = key_cmp} (map (λ e. (e.0, g e.0 e.1)) es)) q ≡ option_map (g q) (get (from_entries {R = key_cmp} es) q)
-  get-changed es q = get-from_entries keys_total (map (λ e. (e.0, g e.0 e.1)) es) q ∙ find-changed es q ∙ ap (option_map (g q)) (sym (get-from_entries keys_total es q))
+  pub put_elsewhere : (m : FinMap key_cmp X) (k q : BlockKey) (v : X) → q ≢ k → get (insert m k v) q ≡ get m q
+  put_elsewhere m k q v other = get-insert keys_total m k v q ∙ ap (λ b. cond b (Some v) (get m q)) (other_key q k other)
+
+  pub gone_here : (m : FinMap key_cmp X) (k : BlockKey) → get (remove m k) k ≡ None
+  gone_here m k = get-remove keys_total m k k ∙ ap (λ b. cond b None (get m k)) (key_itself k)
+
+  pub gone_elsewhere : (m : FinMap key_cmp X) (k q : BlockKey) → q ≢ k → get (remove m k) q ≡ get m q
+  gone_elsewhere m k q other = get-remove keys_total m k q ∙ ap (λ b. cond b None (get m q)) (other_key q k other)
+
+  pub len_put : (m : FinMap key_cmp X) (k : BlockKey) (v : X) → contains_key m k ≡ false → len (insert m k v) ≡ len m + 1
+  len_put m k v new = len-insert keys_total m k v ∙ ap (λ b. cond b (len m) (len m + 1)) new

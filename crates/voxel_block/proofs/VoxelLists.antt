@@ -29,11 +29,11 @@ pub voxels_of-replicate : (n : ℕ) (v : Voxel) → voxels_of (replicate n v.f) 
 voxels_of-replicate zero v = refl
 voxels_of-replicate (suc n) v = ap (λ vs. v ∷ vs) (voxels_of-replicate n v)
 
-pub voxel_in : (vs : List Voxel) (i : ℕ) (v : Voxel) → All IsVoxel vs → i < length vs → slice_get vs i ≡ Some v → IsVoxel v
-voxel_in vs i v all below is = let P : Voxel → Type 0 = IsVoxel in subst P (get_or_from_slice_get vs i v v is) (all i v below)
+pub read_is_voxel : (vs : List Voxel) (i : ℕ) (v : Voxel) → All IsVoxel vs → i < length vs → slice_get vs i ≡ Some v → IsVoxel v
+read_is_voxel vs i v all below is = let P : Voxel → Type 0 = IsVoxel in subst P (get_or_from_slice_get vs i v v is) (all i v below)
 
 pub new_voxel_is_voxel : IsVoxel new_voxel
-new_voxel_is_voxel = record { in_range = λ e. absurd (cc); unseen = λ _. refl }
+new_voxel_is_voxel = record { in_range = λ e. absurd (cc); unobserved = λ _. refl }
 
 pub all_new : (n : ℕ) → All IsVoxel (replicate n new_voxel)
 all_new n = All-replicate IsVoxel n new_voxel new_voxel_is_voxel
@@ -42,8 +42,8 @@ all_new n = All-replicate IsVoxel n new_voxel new_voxel_is_voxel
 pub voxels_of-filled : (n : ℕ) (fs : List ℤ) (ws : List ℕ) → fs ≡ replicate n (pos 32767) → ws ≡ replicate n 0 → voxels_of fs ws ≡ replicate n new_voxel
 voxels_of-filled n fs ws p q = rw (p, q) (voxels_of-replicate n new_voxel)
 
-pub all_filled : (n : ℕ) (fs : List ℤ) (ws : List ℕ) → fs ≡ replicate n (pos 32767) → ws ≡ replicate n 0 → All IsVoxel (voxels_of fs ws)
-all_filled n fs ws p q = let P : List Voxel → Type 0 = All IsVoxel in subst P (sym (voxels_of-filled n fs ws p q)) (all_new n)
+pub all_new_filled : (n : ℕ) (fs : List ℤ) (ws : List ℕ) → fs ≡ replicate n (pos 32767) → ws ≡ replicate n 0 → All IsVoxel (voxels_of fs ws)
+all_new_filled n fs ws p q = let P : List Voxel → Type 0 = All IsVoxel in subst P (sym (voxels_of-filled n fs ws p q)) (all_new n)
 
 -- lists in which one voxel was put
 pub all_set : (fs : List ℤ) (ws : List ℕ) (i : ℕ) (f : ℤ) (v : Voxel) → length fs ≡ length ws → f ≡ v.f → IsVoxel v → All IsVoxel (voxels_of fs ws)

@@ -7,14 +7,14 @@ use Rattle.voxel_block.specs.declared.voxel.Voxel.{Voxel}
 abbrev pub coded_voxel : Coded Voxel
 coded_voxel = code_by (ℤ × ℕ) (coded× coded_ℤ coded_ℕ) (λ v. (v.f, v.w)) (λ p. record { f = p.0; w = p.1 }) (λ _. refl)
 
--- a voxel that was never seen
+-- a voxel that was never observed
 abbrev pub new_voxel : Voxel
 new_voxel = record { f = pos 32767; w = 0 }
 
 -- the distance is not -32768, and a voxel without weight has the greatest distance
 pub record IsVoxel (v : Voxel) : Type 0 where
   pub in_range : v.f ≢ negsuc 32767
-  pub unseen : v.w ≡ 0 → v.f ≡ pos 32767
+  pub unobserved : v.w ≡ 0 → v.f ≡ pos 32767
 
 -- the voxels that have these distances and these weights, in order
 abbrev pub voxels_of : List ℤ → List ℕ → List Voxel

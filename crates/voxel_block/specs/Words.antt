@@ -6,7 +6,7 @@ use Rattle.voxel_block.specs.declared.key.BlockKey.{BlockKey}
 abbrev pub shifted_of : ℤ → ℕ
 shifted_of a = unsigned_abs (a +ℤ pos 32768)
 
--- the word of a key: the shifted coordinates one behind the other, 16 bits each, plus 1
+-- the word of a key: the shifted coordinates one after the other, 16 bits each, plus 1
 abbrev pub word_of : BlockKey → ℕ
 word_of k = 1 + shifted_of k.x * 2 ^ 32 + shifted_of k.y * 2 ^ 16 + shifted_of k.z
 

@@ -5,7 +5,7 @@ use crate::{NoMemory, Voxel};
 use std::alloc::Global;
 use std::marker::Model;
 
-/// The distance of a voxel that was never seen.
+/// The distance of a voxel that was never observed.
 const FAR: i16 = 32767;
 
 /// The 512 voxels of a cube of 8 by 8 by 8. The voxel (x, y, z) has the index x + 8y + 64z, so that a
@@ -44,7 +44,7 @@ impl Block {
         Ok(Block { distances, weights })
     }
 
-    /// Makes every voxel a new one.
+    /// Makes every voxel new.
     pub fn reset(&mut self)
         ensures { self.new ≡ new_block }
     {
@@ -52,11 +52,12 @@ impl Block {
         self.weights.as_mut_slice().fill(0);
     }
 
-    /// A block has 512 voxels. The body does nothing: the clause is the theorem.
-    pub fn has_all_voxels(&self)
-        ensures { length self.now ≡ 512 }
+    /// The number of voxels, which is 512 in every block.
+    pub fn len(&self) -> usize
+        ensures value { result ≡ 512 }
+        ensures voxels { length self.now ≡ 512 }
     {
-        let _ = &self.distances;
+        self.distances.len()
     }
 
     /// The voxel of this index.
@@ -72,7 +73,7 @@ impl Block {
         Voxel { f, w }
     }
 
-    /// Puts a voxel in the place of this index.
+    /// Replaces the voxel of this index.
     pub fn set(&mut self, i: u16, v: Voxel)
         requires index { i < 512 }
         requires voxel { IsVoxel v }

@@ -1,7 +1,7 @@
 ghost use Rattle.std.specs.Prelude.{◌≡◌, ◌^◌, ◌<◌, ◌≤◌, pos, ◌+ℤ◌, ◌-ℤ◌, Some, IfSome};
 ghost use Rattle.voxel_block.specs.Words.{shifted_of, word_of, key_of};
 
-/// The place of a block in the grid, in blocks. Keys are ordered by x, then y, then z.
+/// The coordinates of a block in the grid, in blocks. Keys are ordered by x, then y, then z.
 #[derive(Clone, Copy, Debug, PartialEq, Eq, PartialOrd, Ord, Hash)]
 pub struct BlockKey {
     pub x: i16,
@@ -10,7 +10,7 @@ pub struct BlockKey {
 }
 
 impl BlockKey {
-    /// The key as one word, which is never 0.
+    /// The key as one word, which is never 0: each coordinate plus 32768, in 16 bits, and 1 added to the whole.
     pub fn word(self) -> u64
         ensures value { result ≡ word_of self }
         ensures bound { result ≤ 2 ^ 48 }
@@ -44,7 +44,7 @@ fn shifted(a: i16) -> u64
     (i32::from(a) + 32768) as u64
 }
 
-// The coordinate that is counted so.
+// The coordinate of such a number.
 fn coordinate(n: u64) -> i16
     requires { n < 2 ^ 16 }
     ensures { result ≡ pos n -ℤ pos 32768 }

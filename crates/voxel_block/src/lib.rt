@@ -3,6 +3,7 @@
 
 mod block;
 mod key;
+pub mod laws;
 mod no_memory;
 mod voxel;
 

@@ -7,7 +7,7 @@ use super::*;
 use std::collections::BTreeMap;
 use std::test::Fail;
 
-const FRESH: Voxel = Voxel { f: 32767, w: 0 };
+const NEW: Voxel = Voxel { f: 32767, w: 0 };
 
 // A loop over the voxels of a block, each changed by a rule that knows its index.
 fn weigh(block: &mut Block)
@@ -33,26 +33,27 @@ fn is_shared<T: Send + Sync>(_value: &T) {}
 fn voxels_stay_where_they_are_put(rt: HostRuntime) -> Result<(), Fail> {
     let mut block = Block::make(rt.alloc())?;
     is_shared(&block);
+    assert_eq!(rt; block.len(), 512);
     for i in [0, 8, 64, 511] {
-        assert_eq!(rt; block.get(i), FRESH);
+        assert_eq!(rt; block.get(i), NEW, "new voxel {i}");
     }
     block.set(8, Voxel { f: -32767, w: 255 });
     assert_eq!(rt; block.get(8), Voxel { f: -32767, w: 255 });
     for i in [0, 1, 7, 9, 64, 511] {
-        assert_eq!(rt; block.get(i), FRESH);
+        assert_eq!(rt; block.get(i), NEW, "other voxel {i}");
     }
     weigh(&mut block);
-    for (i, f, w) in [
-        (0, 32767, 1),
-        (8, -32767, 9),
-        (300, 32767, 46),
-        (511, 32767, 2),
+    for (name, i, f, w) in [
+        ("the first", 0, 32767, 1),
+        ("the one that was set", 8, -32767, 9),
+        ("one past 255", 300, 32767, 46),
+        ("the last", 511, 32767, 2),
     ] {
-        assert_eq!(rt; block.get(i), Voxel { f, w });
+        assert_eq!(rt; block.get(i), Voxel { f, w }, "{name}");
     }
     block.reset();
     for i in [0, 8, 300, 511] {
-        assert_eq!(rt; block.get(i), FRESH);
+        assert_eq!(rt; block.get(i), NEW, "reset voxel {i}");
     }
     Ok(())
 }
@@ -63,6 +64,7 @@ fn keys_are_ordered_by_x_then_y_then_z(rt: HostRuntime) -> Result<(), Fail> {
     for (x, y, z) in [(1, 0, 0), (0, 0, 1), (0, 1, 0), (-1, 9, 9), (0, 0, -1)] {
         map.insert(BlockKey { x, y, z }, Block::make(rt.alloc())?)?;
     }
+    is_shared(&map);
     assert_eq!(rt; count(&map), 5);
     let order = [(-1, 9, 9), (0, 0, -1), (0, 0, 1), (0, 1, 0), (1, 0, 0)];
     for (key, (x, y, z)) in map.keys().zip(order) {
@@ -74,8 +76,23 @@ fn keys_are_ordered_by_x_then_y_then_z(rt: HostRuntime) -> Result<(), Fail> {
 #[test]
 fn a_key_has_one_word(rt: HostRuntime) {
     let key = BlockKey { x: 0, y: 0, z: 12 };
+    is_shared(&key);
+    for (name, word, is) in [
+        ("a key's", 140739635871757, Some(key)),
+        ("below all", 0, None),
+        ("above all", 0x1_0000_0000_0001, None),
+    ] {
+        assert_eq!(rt; BlockKey::of_word(word), is, "{name}");
+    }
     assert_eq!(rt; key.word(), 140739635871757);
-    assert_eq!(rt; BlockKey::of_word(140739635871757), Some(key));
-    assert_eq!(rt; BlockKey::of_word(0), None);
-    assert_eq!(rt; BlockKey::of_word(0x1_0000_0000_0001), None);
+}
+
+#[test]
+fn the_error_reads_as_words(rt: HostRuntime) -> Result<(), Fail> {
+    is_shared(&NoMemory);
+    assert_eq!(rt;
+        format!(in rt.alloc(); "{NoMemory}")?.as_str(),
+        "out of memory"
+    );
+    Ok(())
 }

@@ -4,41 +4,42 @@ ghost use Rattle.std.specs.FinMap.{get, insert, len};
 
 use super::HashTable;
 use crate::full::Full;
-use crate::spot::Spot;
+use crate::lookup::Lookup;
 use voxel_block::BlockKey;
 
 impl HashTable {
     ghost use Rattle.spatial_hash.specs.Hash.{home};
     ghost use Rattle.spatial_hash.specs.Changes.{written, extended};
-    ghost use Rattle.spatial_hash.specs.Walk.{place_of, IsFilled, IsFullFor, StaysPut, nodes_for};
+    ghost use Rattle.spatial_hash.specs.Walk.{entry_of, IsFilled, IsFullFor, StaysPut, nodes_for};
     ghost use Rattle.spatial_hash.specs.Contents.{contents, IsKeyAt};
     ghost use Rattle.spatial_hash.specs.Sound.{EndsAt};
-    ghost use Rattle.spatial_hash.specs.Spot.{IsFreeAt, IsNew};
+    ghost use Rattle.spatial_hash.specs.Lookup.{IsFreeAt, IsNew};
+    ghost use Rattle.spatial_hash.specs.Table.{KeepsSize};
 
-    /// Puts a new key with its cell, and gives the key's entry.
+    /// Inserts a new key with its cell, and returns the key's entry.
     ///
-    /// After an error the table is as before. It comes only where there are at least as many keys as nodes.
+    /// After an error the table is as before. There is none while the table has fewer keys than nodes.
     pub fn insert(&mut self, key: BlockKey, cell: u32) -> Result<u32, Full>
         requires { get (contents self.old) key ≡ None }
         ensures full { IsErr result ↔ IsFullFor self.old key }
         ensures err { OnErr result (self.new ≡ self.old) }
         ensures many { OnErr result (self.old.nodes ≤ len (contents self.old)) }
         ensures map { OnOk result (contents self.new ≡ insert (contents self.old) key cell) }
-        ensures place { IfOk result (λ e. place_of self.new key ≡ Some e) }
-        ensures entry { IfOk result (λ e. IsKeyAt self.new key e) }
+        ensures entry { IfOk result (λ e. entry_of self.new key ≡ Some e) }
+        ensures key { IfOk result (λ e. IsKeyAt self.new key e) }
         ensures cell { IfOk result (λ e. slice_index self.new.cells e ≡ cell) }
         ensures others { StaysPut self.old self.new key }
-        ensures size { (self.new.buckets ≡ self.old.buckets) × (self.new.nodes ≡ self.old.nodes) }
+        ensures size { KeepsSize self.old self.new }
         ensures count { self.new.linked ≡ self.old.linked + (if is_ok result then nodes_for self.old key else 0) }
     {
         let word = key.word();
         match self.seek(key) {
-            Spot::Held(_) => unreachable!(),
-            Spot::Free(entry) => {
+            Lookup::Found(_) => unreachable!(),
+            Lookup::Vacant(entry) => {
                 self.fill(entry, word, cell);
                 Ok(entry as u32)
             }
-            Spot::Behind(link) => {
+            Lookup::ChainEnd(link) => {
                 if self.linked == self.nodes {
                     return Err(Full);
                 }

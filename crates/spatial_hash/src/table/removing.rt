@@ -4,27 +4,27 @@ ghost use Rattle.std.specs.FinMap.{contains_key, remove};
 
 use super::HashTable;
 use crate::linked_node::LinkedNode;
-use crate::spot::Spot;
+use crate::lookup::Lookup;
 use voxel_block::BlockKey;
 
 impl HashTable {
     ghost use Rattle.spatial_hash.specs.Hash.{home};
-    ghost use Rattle.spatial_hash.specs.Table.{key_word, link_word};
+    ghost use Rattle.spatial_hash.specs.Table.{KeepsSize, key_word, link_word};
     ghost use Rattle.spatial_hash.specs.Changes.{taken_to, cut, renumbered, shrunk};
     ghost use Rattle.spatial_hash.specs.Removal.{IsLast, IsBucketEnd, IsChainEnd, LeadsTo};
-    ghost use Rattle.spatial_hash.specs.Walk.{place_of, nodes_from};
+    ghost use Rattle.spatial_hash.specs.Walk.{entry_of, nodes_from};
     ghost use Rattle.spatial_hash.specs.Contents.{contents};
 
-    /// Takes a key out, and says whether it was held. Entry numbers of other keys may change.
+    /// Removes a key, and returns whether the table had it. Other keys may move to other entries.
     pub fn remove(&mut self, key: BlockKey) -> bool
-        ensures held { result ≡ contains_key (contents self.old) key }
-        ensures place { result ≡ is_some (place_of self.old key) }
+        ensures had { result ≡ contains_key (contents self.old) key }
+        ensures entry { result ≡ is_some (entry_of self.old key) }
         ensures map { contents self.new ≡ (if result then remove (contents self.old) key else contents self.old) }
         ensures same { result ≡ false → self.new ≡ self.old }
-        ensures size { (self.new.buckets ≡ self.old.buckets) × (self.new.nodes ≡ self.old.nodes) }
+        ensures size { KeepsSize self.old self.new }
         ensures count { self.new.linked ≡ self.old.linked - (if result then nodes_from self.old key else 0) }
     {
-        let Spot::Held(entry) = self.seek(key) else {
+        let Lookup::Found(entry) = self.seek(key) else {
             return false;
         };
         let bucket = self.bucket(key);
@@ -43,7 +43,7 @@ impl HashTable {
         true
     }
 
-    /// Takes out the key at an entry of a bucket without a chain. The bucket's last key comes there.
+    /// Removes the key at an entry of a bucket without a chain. The bucket's last key moves there.
     fn remove_entry(&mut self, bucket: usize, entry: usize, last: usize)
         requires bucket { bucket < self.old.buckets }
         requires last { IsLast self.old bucket entry last }
@@ -56,8 +56,8 @@ impl HashTable {
         self.words[last] = 0;
     }
 
-    /// Takes out the key at an entry of a bucket with a chain. The key of the chain's last node comes
-    /// there, and this node, the highest one that is linked, is unlinked.
+    /// Removes the key at an entry of a bucket with a chain. The key of the chain's last node moves
+    /// there, and this node, the highest linked one, is unlinked.
     fn remove_top(&mut self, bucket: usize, entry: usize, last: LinkedNode)
         requires bucket { bucket < self.old.buckets }
         requires last { IsLast self.old bucket entry (4 * self.old.buckets + last.node) }
@@ -73,8 +73,8 @@ impl HashTable {
         self.linked -= 1;
     }
 
-    /// The same where another node is the highest one that is linked. This moves to the node that is
-    /// left free, so that the linked nodes are still those below their count.
+    /// The same where another node is the highest linked one. Its key and its link move to the node that
+    /// was unlinked, so that the linked nodes are still those with the lowest numbers.
     fn remove_below(&mut self, bucket: usize, entry: usize, last: LinkedNode, top: LinkedNode)
         requires bucket { bucket < self.old.buckets }
         requires last { IsLast self.old bucket entry (4 * self.old.buckets + last.node) }
@@ -99,7 +99,7 @@ impl HashTable {
         self.linked -= 1;
     }
 
-    /// The last filled entry of a bucket that has one.
+    /// The last filled entry of a bucket that has a filled one.
     fn last_entry(&self, bucket: usize) -> usize
         requires low { bucket < self.now.buckets }
         requires filled { 0 < key_word self.now (4 * bucket) }
@@ -113,7 +113,7 @@ impl HashTable {
         4 * bucket + 3
     }
 
-    /// The last node of a chain that has one.
+    /// The last node of the chain of a bucket that has a chain.
     fn last_node(&self, bucket: usize) -> LinkedNode
         requires low { bucket < self.now.buckets }
         requires some { 0 < link_word self.now bucket }

@@ -1,9 +1,9 @@
 ghost use Rattle.std.specs.Prelude.{◌≡◌, ◌^◌, ◌<◌};
 ghost use Rattle.std.specs.Option.{IsSome};
-ghost use Rattle.spatial_hash.specs.Hash.{scaled as scaled_by};
+ghost use Rattle.spatial_hash.specs.Hash.{hash_axis as hash_axis_of};
 
 use super::HashTable;
-use crate::spot::Spot;
+use crate::lookup::Lookup;
 use voxel_block::BlockKey;
 
 /// The factors of the hash, one for each axis.
@@ -16,12 +16,12 @@ const Z_FACTOR: i32 = 83492791;
 impl HashTable {
     ghost use Rattle.spatial_hash.specs.Hash.{bucket_of, home};
     ghost use Rattle.spatial_hash.specs.Table.{entries_in};
-    ghost use Rattle.spatial_hash.specs.Spot.{IsSpot, IsChainSpot, IsCellAt};
+    ghost use Rattle.spatial_hash.specs.Lookup.{IsLookup, IsChainLookup, IsCellAt};
     ghost use Rattle.voxel_block.specs.Words.{word_of, key_of};
 
-    /// Walks over the bucket of a key and its chain.
-    pub(super) fn seek(&self, key: BlockKey) -> Spot
-        ensures spot { IsSpot self.now (word_of key) (bucket_of self.now.buckets key) result }
+    /// Looks a key up in its bucket and the bucket's chain.
+    pub(super) fn seek(&self, key: BlockKey) -> Lookup
+        ensures lookup { IsLookup self.now (word_of key) (bucket_of self.now.buckets key) result }
         ensures cell { IsCellAt self.now key result }
         ensures small { entries_in self.now < 2 ^ 32 }
     {
@@ -29,36 +29,36 @@ impl HashTable {
         let bucket = self.bucket(key);
         for i in 0..4 {
             let entry = 4 * bucket + i;
-            let seen = self.words[entry];
-            if seen == word {
-                return Spot::Held(entry);
+            let stored = self.words[entry];
+            if stored == word {
+                return Lookup::Found(entry);
             }
-            if seen == 0 {
-                return Spot::Free(entry);
+            if stored == 0 {
+                return Lookup::Vacant(entry);
             }
         }
         self.seek_chain(word, bucket)
     }
 
-    /// Walks over the chain of a bucket.
-    fn seek_chain(&self, word: u64, bucket: usize) -> Spot
+    /// Looks a key word up in the chain of a bucket.
+    fn seek_chain(&self, word: u64, bucket: usize) -> Lookup
         requires { bucket < self.now.buckets }
-        ensures { IsChainSpot self.now word bucket result }
+        ensures { IsChainLookup self.now word bucket result }
     {
         let mut link = bucket;
         for _ in 0..self.linked {
             let next = self.words[4 * self.buckets + self.nodes + link];
             if next == 0 {
-                return Spot::Behind(link);
+                return Lookup::ChainEnd(link);
             }
             let node = next as usize - 1;
             let entry = 4 * self.buckets + node;
             if self.words[entry] == word {
-                return Spot::Held(entry);
+                return Lookup::Found(entry);
             }
             link = self.buckets + node;
         }
-        Spot::Behind(link)
+        Lookup::ChainEnd(link)
     }
 
     /// The bucket of the key with this word.
@@ -78,14 +78,16 @@ impl HashTable {
         ensures value { result ≡ bucket_of self.now.buckets key }
         ensures bound { result < self.now.buckets }
     {
-        let hash = scaled(key.x, X_FACTOR) ^ scaled(key.y, Y_FACTOR) ^ scaled(key.z, Z_FACTOR);
+        let hash = hash_axis(key.x, X_FACTOR)
+            ^ hash_axis(key.y, Y_FACTOR)
+            ^ hash_axis(key.z, Z_FACTOR);
         hash as usize % self.buckets
     }
 }
 
-/// A coordinate times a factor, modulo 2^32.
-fn scaled(a: i16, factor: i32) -> u32
-    ensures { result ≡ scaled_by a factor }
+/// What one axis adds to the hash: the coordinate times the factor, modulo 2^32.
+fn hash_axis(a: i16, factor: i32) -> u32
+    ensures { result ≡ hash_axis_of a factor }
 {
     i32::from(a).wrapping_mul(factor).cast_unsigned()
 }

@@ -24,7 +24,7 @@ returns-clause-after c =
     let below : c.args.cell < length cells.items = omega (arith, c.requires, ap (λ (h : Cells). length h.cells) c.self.view_is) in
     let there : slice_get cells.items c.args.cell ≡ Some c.index.result.now = slice_get_read cells.items (length cells.items) c.args.cell c.index.result.now refl below c.index.ensures in
     let before : Cells = record { cells = cells.items; free = c.self.inside.free.items } in
-    let changed = c.free_cell.ensures.cells c.index.result.now there in
+    let changed = c.set_owner.ensures.cells c.index.result.now there in
     let after = given_up_is before c.args.cell c.index.result.now there (sym c.is_free.ensures ∙ c.if-is_free.false) in
     (λ i. record { cells = changed i; free = c.push_reserved.ensures.items i }) ∙ sym after ∙ ap (λ h. given_up h c.args.cell) c.self.view_is
 
@@ -34,10 +34,10 @@ returns-clause-list c =
     let below : c.args.cell < length cells.items = omega (arith, c.requires, ap (λ (h : Cells). length h.cells) c.self.view_is) in
     let there : slice_get cells.items c.args.cell ≡ Some c.index.result.now = slice_get_read cells.items (length cells.items) c.args.cell c.index.result.now refl below c.index.ensures in
     let owned : is_free_at cells.items c.args.cell ≡ false = ap has_free there ∙ sym c.is_free.ensures ∙ c.if-is_free.false in
-    rw (c.free_cell.ensures.cells c.index.result.now there, c.push_reserved.ensures.items) (freed_list _ _ _ _ c.self.invariant.0 below owned (is_free-freed c.index.result.now))
+    rw (c.set_owner.ensures.cells c.index.result.now there, c.push_reserved.ensures.items) (freed_list _ _ _ _ c.self.invariant.0 below owned (is_free-freed c.index.result.now))
 
 pub invariant_of-self : goal.invariant_of-self
 invariant_of-self c =
     let most = c.self.invariant.1 in
     let room = c.self.invariant.2 in
-    (returns-clause-list c, omega (arith, c.free_cell.ensures.len), omega (arith, c.free_cell.ensures.len, c.push_reserved.ensures.capacity))
+    (returns-clause-list c, omega (arith, c.set_owner.ensures.len), omega (arith, c.set_owner.ensures.len, c.push_reserved.ensures.capacity))

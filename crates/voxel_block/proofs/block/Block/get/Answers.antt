@@ -4,7 +4,7 @@ use Rattle.std.specs.Int.{w16}
 use Rattle.std.proofs.lemmas.Int.{to_z-of_z}
 use Rattle.voxel_block.specs.declared.voxel.Voxel.{Voxel}
 use Rattle.voxel_block.specs.Voxels.{IsVoxel}
-use Rattle.voxel_block.proofs.VoxelLists.{length-voxels_of, voxel_read, voxel_in}
+use Rattle.voxel_block.proofs.VoxelLists.{length-voxels_of, voxel_read, read_is_voxel}
 use Rattle.voxel_block.proofs.block.Block.get.Goals as goal
 
 pub returns-clause-count : goal.returns-clause-count
@@ -27,4 +27,4 @@ pub returns-clause-voxel : goal.returns-clause-voxel
 returns-clause-voxel c =
     let n = returns-clause-count c in
     let P : List Voxel → Type 0 = All IsVoxel in
-    voxel_in c.args.self.now c.args.i _ (subst P c.self.view_is c.self.invariant.2) (omega arith) (returns-clause-value c)
+    read_is_voxel c.args.self.now c.args.i _ (subst P c.self.view_is c.self.invariant.2) (omega arith) (returns-clause-value c)

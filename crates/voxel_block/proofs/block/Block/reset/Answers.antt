@@ -3,7 +3,7 @@ use Rattle.std.specs.Prelude.{replicate, pos}
 use Rattle.std.specs.Vec.{with_items}
 use Rattle.std.specs.declared.vec.Vec.{Vec}
 use Rattle.std.proofs.lemmas.List.{with_items_is}
-use Rattle.voxel_block.proofs.VoxelLists.{voxels_of-filled, all_filled}
+use Rattle.voxel_block.proofs.VoxelLists.{voxels_of-filled, all_new_filled}
 use Rattle.voxel_block.proofs.block.Block.reset.Goals as goal
 
 -- a vector of n elements whose slice was filled with x
@@ -15,7 +15,7 @@ pub invariant_of-self : goal.invariant_of-self
 invariant_of-self c =
     let p = filled c.self.inside.distances _ _ 512 (pos 32767) c.as_mut_slice.ensures.len c.self.invariant.0 c.fill.ensures.len (c.fill.ensures.after (λ _ e. e)) in
     let q = filled c.self.inside.weights _ _ 512 0 c.as_mut_slice-2.ensures.len c.self.invariant.1 c.fill-2.ensures.len (c.fill-2.ensures.after (λ _ e. e)) in
-    (c.self.invariant.0, c.self.invariant.1, all_filled 512 _ _ p q)
+    (c.self.invariant.0, c.self.invariant.1, all_new_filled 512 _ _ p q)
 
 pub returns : goal.returns
 returns c =

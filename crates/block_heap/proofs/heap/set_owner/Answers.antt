@@ -1,8 +1,8 @@
 use Rattle.std.proofs.Common.{◌≡◌, ◌∙◌, ◌-◌, length, set, ap, sym, arith}
 use Rattle.std.proofs.lemmas.Option.{get_or_from_slice_get}
 use Rattle.block_heap.proofs.CellEdits.{IsTakenOut, changed_by_swap}
-use Rattle.block_heap.specs.Cells.{freed}
-use Rattle.block_heap.proofs.heap.free_cell.Goals as goal
+use Rattle.block_heap.specs.Cells.{with_owner}
+use Rattle.block_heap.proofs.heap.set_owner.Goals as goal
 
 pub returns-clause-cells : goal.returns-clause-cells
 returns-clause-cells c = λ old is.
@@ -21,5 +21,5 @@ returns-clause-cells c = λ old is.
     } in
     let last : c.len-last.result - 1 ≡ length taken.items = omega arith in
     let same : length after.items ≡ length before.items = omega arith in
-    changed_by_swap before.items taken.items pushed.items after.items c.args.i before.len (c.len-last.result - 1) c.freed.result out c.requires c.push_reserved.ensures.items last c.swap.ensures.by_index same
-    ∙ ap (set before.items c.args.i) (c.freed.ensures ∙ ap freed (c.swap_remove-cell.ensures.value ∙ get_or_from_slice_get before.items c.args.i old c.swap_remove-cell.result is))
+    changed_by_swap before.items taken.items pushed.items after.items c.args.i before.len (c.len-last.result - 1) c.with_owner.result out c.requires c.push_reserved.ensures.items last c.swap.ensures.by_index same
+    ∙ ap (set before.items c.args.i) (c.with_owner.ensures ∙ ap (λ x. with_owner x c.args.owner) (c.swap_remove-cell.ensures.value ∙ get_or_from_slice_get before.items c.args.i old c.swap_remove-cell.result is))

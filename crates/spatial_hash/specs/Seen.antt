@@ -1,7 +1,0 @@
--- What contracts see of a table's fields.
-use Rattle.spatial_hash.specs.declared.table.HashTable.TheInside.{Inside}
-use Rattle.spatial_hash.specs.Table.{Table}
-
--- the table with these fields
-abbrev pub seen : Inside → Table
-seen t = record { buckets = t.buckets; nodes = t.nodes; linked = t.linked; words = t.words.items; cells = t.cells.items }
