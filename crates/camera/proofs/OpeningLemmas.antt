@@ -1,6 +1,6 @@
 -- Whole numbers of the opening test as 64 bits hold them.
 use Rattle.std.proofs.Common.{◌≡◌, ◌∙◌, ap, arith, refl, rules, Bool, cond, Ok, Err}
-use Rattle.std.specs.Prelude.{ℤ, pos, neg_ℤ, ◌+ℤ◌, ◌*ℤ◌, ◌≤ℤ◌, unsigned_abs, Result, ⊤}
+use Rattle.std.specs.Prelude.{ℤ, pos, neg_ℤ, ◌+ℤ◌, ◌*ℤ◌, ◌≤ℤ◌, ◌&&◌, int_le, unsigned_abs, Result, ⊤}
 use Rattle.std.specs.Int.{int_max}
 use Rattle.std.proofs.lemmas.Int.{ints, clamps}
 use mir.Val.{to_z, of_z, SFits}
@@ -8,7 +8,8 @@ use mir.Syntax.{w64}
 use Rattle.camera.specs.declared.camera.CameraFields.{CameraFields}
 use Rattle.camera.specs.declared.camera.BadCamera.{BadCamera}
 use Rattle.camera.specs.declared.camera.BadCamera.TheVariants.{Reach, Sphere}
-use Rattle.camera.specs.Cameras.{has_reach, fits_sphere}
+use Rattle.camera.specs.Cameras.{HasRanges, has_reach, fits_sphere, max_depth, reach_axis, reach_x, reach_y}
+use Rattle.camera.proofs.Readings.{read, fields_read}
 
 -- a number well within 64 bits is held as it is
 pub same64 : (z : ℤ) → (neg_ℤ (pos 1152921504606846976)) ≤ℤ z → z ≤ℤ pos 1152921504606846976 → to_z w64 (of_z w64 z) ≡ z
@@ -71,10 +72,12 @@ three_are a b d al ah bl bh dl dh =
     let is_d : to_z w64 (of_z w64 d) ≡ d = same64 d (omega (arith, ints)) (omega (arith, ints)) in
     rw (two_are a b al (omega (arith, ints)) bl (omega (arith, ints)), is_d) (same64 (a +ℤ b +ℤ d) (omega (arith, ints)) (omega (arith, ints)))
 
--- the pixels of a side in units of 1/65536
-pub pixels_are : (size : ℤ) → pos 1 ≤ℤ size → size ≤ℤ pos 2048 → to_z w64 (of_z w64 (pos 65536 *ℤ to_z w64 (of_z w64 size))) ≡ pos 65536 *ℤ size
-pixels_are size low high =
-    rw (same64 size (omega (arith, ints)) (omega (arith, ints))) (same64 (pos 65536 *ℤ size) (omega (arith, ints)) (omega (arith, ints)))
+-- the reach on both axes, as it is computed
+pub reaches_are : (k : CameraFields) (d x y : ℤ) → HasRanges k → d ≡ max_depth k → read d ≡ d → x ≡ reach_axis (read d) (read k.fx) (read k.width) (read k.cx) → y ≡ reach_axis (read d) (read k.fy) (read k.height) (read k.cy) → (x ≡ reach_x k) × (y ≡ reach_y k)
+reaches_are k d x y r e same ex ey = let is = fields_read k r in (ex ∙ rw (same, e, is.fx, is.width, is.cx) refl, ey ∙ rw (same, e, is.fy, is.height, is.cy) refl)
+
+pub reach_tested_by : (k : CameraFields) (x y : ℤ) (b : Bool) → x ≡ reach_x k → y ≡ reach_y k → read x ≡ x → read y ≡ y → b ≡ (int_le (read x) (pos 17000000) && int_le (read y) (pos 17000000)) → b ≡ has_reach k
+reach_tested_by k x y b ex ey sx sy e = e ∙ rw (sx, sy, ex, ey) refl
 
 -- the test with its two answers
 abbrev pub answer : (reach sphere : Bool) → Result ⊤ BadCamera

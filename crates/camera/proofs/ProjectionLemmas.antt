@@ -87,7 +87,7 @@ dividend_is s t f c x z ef ex ez cb e g =
     joined s t a b d e f = omega (arith, ints)
 
 -- the sum of two products of 128 bits, and of two of 64
-pub wide_sum : (s t : ℤ) → unsigned_abs s ≤ 2 ^ 72 → unsigned_abs t ≤ 2 ^ 72 → (read128 (read128 s +ℤ read128 t) ≡ s +ℤ t) × (unsigned_abs (s +ℤ t) ≤ 2 ^ 73)
+pub wide_sum : (s t : ℤ) → unsigned_abs s ≤ 2 ^ 73 → unsigned_abs t ≤ 2 ^ 73 → (read128 (read128 s +ℤ read128 t) ≡ s +ℤ t) × (unsigned_abs (s +ℤ t) ≤ 2 ^ 74)
 wide_sum s t h i = (omega (arith, ints), omega (arith, ints))
 
 pub near_sum : (s t : ℤ) → IsWithin (pos 72057594037927936) s → IsWithin (pos 72057594037927936) t → (read (read s +ℤ read t) ≡ s +ℤ t) × IsWithin (pos 144115188075855872) (s +ℤ t)
@@ -104,10 +104,10 @@ near_fits s t v w =
     rw (one, two) (fits64 (s +ℤ t) (record { low = omega (arith, ints); high = omega (arith, ints) }))
 
 -- its quotient by 2^16 is small
-pub quotient_within : (a : ℤ) → unsigned_abs a ≤ 2 ^ 73 → IsWithin (pos 1152921504606846976) (floor_div a (pos 65536))
+pub quotient_within : (a : ℤ) → unsigned_abs a ≤ 2 ^ 74 → IsWithin (pos 1152921504606846976) (floor_div a (pos 65536))
 quotient_within a h = plain a (floor_div a (pos 65536)) (floor_is a (pos 65536) (omega (arith, ints))) h
   where
-    plain : (a q : ℤ) → IsFloor a (pos 65536) q → unsigned_abs a ≤ 2 ^ 73 → IsWithin (pos 1152921504606846976) q
+    plain : (a q : ℤ) → IsFloor a (pos 65536) q → unsigned_abs a ≤ 2 ^ 74 → IsWithin (pos 1152921504606846976) q
     plain a q is h = record { low = omega (arith, ints, is.below, is.above); high = omega (arith, ints, is.below, is.above) }
 
 -- ---- depths

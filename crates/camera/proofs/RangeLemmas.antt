@@ -25,44 +25,6 @@ is_at_most a b h = grind (arith, ints)
 pub between : (low high z : ℤ) → within low high z ≡ true → (low ≤ℤ z) × (z ≤ℤ high)
 between low high z h = let p = and_parts (int_le low z) (int_le z high) h in (is_at_most low z p.0, is_at_most z high p.1)
 
--- what two searches find, the first one first
-pub or_then : Option ℕ → Option ℕ → Option ℕ
-or_then (Some n) later = Some n
-or_then None later = later
-
--- the four tests of the image are tried before the other nine
-four_first : (a b c d : Bool) (tests : List Bool) → first_failing 2 (a ∷ b ∷ c ∷ d ∷ tests) ≡ or_then (first_failing 2 (a ∷ b ∷ c ∷ d ∷ [])) (first_failing 6 tests)
-unfolding or_then
-four_first true true true true tests = refl
-four_first true true true false tests = refl
-four_first true true false d tests = refl
-four_first true false c d tests = refl
-four_first false b c d tests = refl
-
-image_first : (k : CameraFields) → first_failing 2 (camera_tests k) ≡ or_then (first_failing 2 (take 4 (camera_tests k))) (first_failing 6 (drop 4 (camera_tests k)))
-unfolding camera_tests
-image_first k = four_first (within (pos 1) (pos 2048) k.width) (within (pos 1) (pos 2048) k.height) (within (pos 1) (pos 1073741824) k.fx) (within (pos 1) (pos 1073741824) k.fy) (drop 4 (camera_tests k))
-
--- where none of the image's tests fails, the others tell
-pub image_holds : (k : CameraFields) (r : Option ℕ) → first_failing 2 (take 4 (camera_tests k)) ≡ None → r ≡ first_failing 6 (drop 4 (camera_tests k)) → r ≡ first_failing 2 (camera_tests k)
-unfolding or_then
-image_holds k r is others = rw (image_first k, is, others) refl
-
--- the bounds that the ranges of cx and cy are taken by
-pub record HasSizes (k : CameraFields) : Type 0 where
-  pub width : pos 1 ≤ℤ k.width
-  pub width_high : k.width ≤ℤ pos 2048
-  pub height : pos 1 ≤ℤ k.height
-  pub height_high : k.height ≤ℤ pos 2048
-
-pub has_sizes : (k : CameraFields) → first_failing 2 (take 4 (camera_tests k)) ≡ None → HasSizes k
-unfolding camera_tests AllHold
-has_sizes k h =
-    let t = all_hold 2 (take 4 (camera_tests k)) h in
-    let width = between (pos 1) (pos 2048) k.width t.0 in
-    let height = between (pos 1) (pos 2048) k.height t.1.0 in
-    record { width = width.0; width_high = width.1; height = height.0; height_high = height.1 }
-
 pub has_ranges : (k : CameraFields) → first_failing 2 (camera_tests k) ≡ None → HasRanges k
 unfolding camera_tests AllHold
 has_ranges k h =

@@ -10,7 +10,7 @@ use Rattle.fixed_geom.specs.Vectors.{IsWithin, AreWithin}
 use Rattle.camera.specs.declared.camera.CameraFields.{CameraFields}
 use Rattle.camera.specs.Cameras.{HasRanges, max_depth, left, right}
 use Rattle.camera.specs.Visibility.{margin, side_depth, is_at_depth, is_between_sides}
-use Rattle.camera.proofs.Readings.{read, read128, fits64, fields_read, wide_read}
+use Rattle.camera.proofs.Readings.{read, read128, fits64, fields_read, wide_read, wider}
 
 -- ---- two tests, the second one tried where the first one holds
 
@@ -24,13 +24,13 @@ first_tells false b x t e = e
 
 -- ---- numbers that are read as they are
 
-small_read : (n : ℤ) → IsWithin (pos 1400000) n → read n ≡ n
+pub small_read : (n : ℤ) → IsWithin (pos 1400000) n → read n ≡ n
 small_read n w = omega (arith, ints)
 
 side_read : (z : ℤ) → IsWithin (pos 1073741824) z → read z ≡ z
 side_read z w = omega (arith, ints)
 
-depth_read : (z : ℤ) → IsWithin (pos 8796093022208) z → read z ≡ z
+pub depth_read : (z : ℤ) → IsWithin (pos 8796093022208) z → read z ≡ z
 depth_read z w = omega (arith, ints)
 
 max_depth_read : (z : ℤ) → IsWithin (pos 17000000) z → read z ≡ z
@@ -116,6 +116,9 @@ high_at r f c w n x h m b em mb e = e ∙ rw (side_read m mb, em, size_read w b.
     centre_read : (c : ℤ) → IsWithin (pos 134217728) c → read c ≡ c
     centre_read c v = omega (arith, ints)
 
+pub left_bound : (l : ℤ) → IsWithin (pos 134250496) l → IsWithin (pos 1073741824) l
+left_bound l w = wider (pos 134250496) (pos 1073741824) l (omega (arith, ints)) w
+
 -- both sides
 pub both_sides : (r t : Bool) (f c w n x h l m : ℤ) → IsBounded f c w n x h → l ≡ left (read c) → IsWithin (pos 1073741824) l → m ≡ int_max (pos 0) (right (read w) (read c)) → IsWithin (pos 1073741824) m
     → r ≡ int_le (neg_ℤ (read l *ℤ read h)) (read f *ℤ read (read x +ℤ read n)) → t ≡ int_le (read f *ℤ read (read x -ℤ read n)) (read m *ℤ read h) → r ≡ true → t ≡ is_between_sides f c w n x h
@@ -125,16 +128,6 @@ pub not_left : (r : Bool) (f c w n x h l : ℤ) → IsBounded f c w n x h → l 
     → r ≡ int_le (neg_ℤ (read l *ℤ read h)) (read f *ℤ read (read x +ℤ read n)) → r ≡ false → r ≡ is_between_sides f c w n x h
 not_left r f c w n x h l b el lb er fails = first_tells _ _ r fails (low_at r f c w n x h l b el lb er)
 
--- ---- the sides of a camera's image
-
-pub columns_read : (r : Bool) (k : CameraFields) (p : Vec3) (n h : ℤ) → HasRanges k → AreWithin (pos 4398046511104) p → n ≡ margin k → IsWithin (pos 1400000) n → h ≡ side_depth k (read p.z) → IsWithin (pos 8796093022208) h
-    → r ≡ is_between_sides (read k.fx) (read k.cx) (read k.width) (read n) (read p.x) (read h) → r ≡ is_between_sides k.fx k.cx k.width (margin k) p.x (side_depth k p.z)
-columns_read r k p n h o near en nb eh hb e =
-    let is = fields_read k o in
-    e ∙ rw (is.fx, is.cx, is.width, small_read n nb, en, wide_read p.x near.x, depth_read h hb, eh, wide_read p.z near.z) refl
-
-pub rows_read : (r : Bool) (k : CameraFields) (p : Vec3) (n h : ℤ) → HasRanges k → AreWithin (pos 4398046511104) p → n ≡ margin k → IsWithin (pos 1400000) n → h ≡ side_depth k (read p.z) → IsWithin (pos 8796093022208) h
-    → r ≡ is_between_sides (read k.fy) (read k.cy) (read k.height) (read n) (read p.y) (read h) → r ≡ is_between_sides k.fy k.cy k.height (margin k) p.y (side_depth k p.z)
-rows_read r k p n h o near en nb eh hb e =
-    let is = fields_read k o in
-    e ∙ rw (is.fy, is.cy, is.height, small_read n nb, en, wide_read p.y near.y, depth_read h hb, eh, wide_read p.z near.z) refl
+-- the test of one axis, as the machine reads its numbers
+pub sides_read : (r : Bool) (f c w n x h n' h' : ℤ) → read f ≡ f → read c ≡ c → read w ≡ w → read n ≡ n' → read x ≡ x → read h ≡ h' → r ≡ is_between_sides (read f) (read c) (read w) (read n) (read x) (read h) → r ≡ is_between_sides f c w n' x h'
+sides_read r f c w n x h n' h' ef ec ew en ex eh e = e ∙ rw (ef, ec, ew, en, ex, eh) refl

@@ -9,6 +9,8 @@ use crate::opening::{check_opening, failing_field};
 use crate::ray::PixelRays;
 use crate::{grid, projection, sphere, visibility};
 use fixed_geom::{Pose, Vec3};
+use std::error::Error;
+use std::fmt;
 use std::marker::Model;
 use voxel_block::BlockKey;
 
@@ -45,6 +47,46 @@ pub enum BadCamera {
     Reach,
     /// A frame may touch what does not lie in the active sphere.
     Sphere,
+}
+
+impl fmt::Display for BadCamera {
+    fn fmt<W: fmt::Write>(&self, f: &mut fmt::Formatter<W>) -> fmt::Result {
+        match self {
+            BadCamera::Field(number) => {
+                let name = field_name(*number);
+                write!(f, "the {name} is out of its range")
+            }
+            BadCamera::Reach => write!(
+                f,
+                "a frame may touch what lies more than 17 metres from the axis"
+            ),
+            BadCamera::Sphere => write!(
+                f,
+                "a frame may touch what does not lie in the active sphere"
+            ),
+        }
+    }
+}
+
+impl Error for BadCamera {}
+
+/// What the field of this number is called.
+fn field_name(number: u8) -> &'static str {
+    match number {
+        2 => "width",
+        3 => "height",
+        4 => "focal length fx",
+        5 => "focal length fy",
+        6 => "centre cx",
+        7 => "centre cy",
+        8 => "unit",
+        9 => "nearest depth",
+        10 => "farthest depth",
+        11 => "voxel size",
+        12 => "truncation distance mu",
+        13 => "radius of the active sphere",
+        _ => "depth of the active sphere's centre",
+    }
 }
 
 /// A camera whose fields passed all tests.

@@ -7,6 +7,7 @@ pub mod laws;
 mod opening;
 mod projection;
 mod ray;
+mod shared;
 mod sphere;
 mod visibility;
 

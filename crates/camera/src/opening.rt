@@ -1,19 +1,15 @@
-ghost use Rattle.std.specs.Prelude.{◌≡◌, ◌+◌, ◌<◌, ◌≤ℤ◌, ◌*ℤ◌, ◌+ℤ◌, ◌-ℤ◌, ◌&&◌, int_le, neg_ℤ, pos, Ok, Err, Some, None, drop, take, length, unsigned_abs, if◌then◌else◌, IsTrue};
+ghost use Rattle.std.specs.Prelude.{◌≡◌, ◌+◌, ◌<◌, ◌≤ℤ◌, ◌*ℤ◌, ◌+ℤ◌, ◌-ℤ◌, ◌&&◌, int_le, neg_ℤ, pos, Ok, Err, Some, None, length, unsigned_abs, if◌then◌else◌, IsTrue};
 ghost use Rattle.std.specs.Int.{int_max};
 ghost use Rattle.fixed_geom.specs.Division.{floor_div};
-ghost use Rattle.camera.specs.Cameras.{within as is_within, HasRanges, left as left_of, right as right_of, half as half_of, max_depth as max_depth_of, reach_axis, reach_x as reach_x_of, reach_y as reach_y_of, square as square_of, fits_sphere as fits_sphere_of, has_reach as has_reach_of};
+ghost use Rattle.camera.specs.Cameras.{within as is_within, HasRanges, right as right_of, half as half_of, reach_axis, reach_x as reach_x_of, reach_y as reach_y_of, square as square_of, fits_sphere as fits_sphere_of, has_reach as has_reach_of};
 ghost use Rattle.camera.specs.Opening.{camera_tests, first_failing as first_failing_of};
 ghost use Rattle.camera.specs.declared.camera.BadCamera.TheVariants.{Reach, Sphere};
 
 use crate::camera::{BadCamera, CameraFields};
+use crate::shared::{is_between, left, max_depth};
 
+/// How far from the axis a frame may touch: 17 metres.
 const MAX_REACH: i64 = 17000000;
-
-fn within(low: i64, high: i64, value: i64) -> bool
-    ensures { result ≡ is_within low high value }
-{
-    low <= value && value <= high
-}
 
 /// The number of the first test that fails, where the first test has the number `first`.
 pub fn first_failing(tests: &[bool], first: u8) -> Option<u8>
@@ -35,58 +31,34 @@ pub fn failing_field(f: CameraFields) -> Option<u8>
     ensures value { result ≡ first_failing_of 2 (camera_tests f) }
     ensures ranges { result ≡ None → HasRanges f }
 {
-    match failing_in_image(f) {
-        Some(number) => Some(number),
-        None => failing_in_space(f),
-    }
-}
-
-fn failing_in_image(f: CameraFields) -> Option<u8>
-    ensures { result ≡ first_failing_of 2 (take 4 (camera_tests f)) }
-{
     let tests = [
-        within(1, 2048, f.width),
-        within(1, 2048, f.height),
-        within(1, 1073741824, f.fx),
-        within(1, 1073741824, f.fy),
+        is_between(1, 2048, f.width),
+        is_between(1, 2048, f.height),
+        is_between(1, 1073741824, f.fx),
+        is_between(1, 1073741824, f.fy),
+        is_in_pixels(f.width, f.cx),
+        is_in_pixels(f.height, f.cy),
+        is_between(1, 100000, f.unit),
+        is_between(1, 16000000, f.near),
+        is_between(f.near, 16000000, f.far),
+        is_between(1000, 100000, f.voxel),
+        is_between(f.voxel, 1000000, f.mu),
+        is_between(1, 100000000, f.radius),
+        is_between(0, 17000000, f.centre),
     ];
     first_failing(&tests, 2)
 }
 
-// The ranges of cx and cy are taken only where the width and the height are in theirs.
-fn failing_in_space(f: CameraFields) -> Option<u8>
-    requires width { pos 1 ≤ℤ f.width }
-    requires width_high { f.width ≤ℤ pos 2048 }
-    requires height { pos 1 ≤ℤ f.height }
-    requires height_high { f.height ≤ℤ pos 2048 }
-    ensures { result ≡ first_failing_of 6 (drop 4 (camera_tests f)) }
+/// Whether a centre lies within so many pixels, in 1/65536 pixel.
+fn is_in_pixels(size: i64, c: i64) -> bool
+    ensures { result ≡ is_within (pos 0) (pos 65536 *ℤ size) c }
 {
-    let tests = [
-        within(0, 65536 * f.width, f.cx),
-        within(0, 65536 * f.height, f.cy),
-        within(1, 100000, f.unit),
-        within(1, 16000000, f.near),
-        within(f.near, 16000000, f.far),
-        within(1000, 100000, f.voxel),
-        within(f.voxel, 1000000, f.mu),
-        within(1, 100000000, f.radius),
-        within(0, 17000000, f.centre),
-    ];
-    first_failing(&tests, 6)
+    0 <= c && i128::from(c) <= 65536 * i128::from(size)
 }
 
-// The opening test. Lengths are micrometres, and places in the image are in 1/65536 pixel.
+// The opening test. Lengths are micrometres, and offsets in the image are in 1/65536 pixel.
 
-fn left(c: i64) -> i64
-    requires low { pos 0 ≤ℤ c }
-    requires high { c ≤ℤ pos 134217728 }
-    ensures value { result ≡ left_of c }
-    ensures low { pos 0 ≤ℤ result }
-    ensures high { result ≤ℤ pos 134250496 }
-{
-    c + 32768
-}
-
+/// What the image has on the right of its centre.
 fn right(size: i64, c: i64) -> i64
     requires size { pos 0 ≤ℤ size }
     requires size_high { size ≤ℤ pos 2048 }
@@ -99,7 +71,7 @@ fn right(size: i64, c: i64) -> i64
     65536 * size - c - 32768
 }
 
-// The greater one of what the image has on both sides of its centre.
+/// The greater one of what the image has on both sides of its centre.
 fn half(size: i64, c: i64) -> i64
     requires size { pos 0 ≤ℤ size }
     requires size_high { size ≤ℤ pos 2048 }
@@ -134,6 +106,7 @@ fn floor(a: i64, b: i64) -> i64
     a.div_euclid(b)
 }
 
+/// How far a point of the image may lie from the axis at depth `z`.
 fn reach(z: i64, focal: i64, size: i64, c: i64) -> i64
     requires z { pos 0 ≤ℤ z }
     requires z_high { z ≤ℤ pos 17000000 }
@@ -148,31 +121,6 @@ fn reach(z: i64, focal: i64, size: i64, c: i64) -> i64
     floor(product(z, half(size, c)), focal) + 1
 }
 
-fn max_depth(k: CameraFields) -> i64
-    requires { HasRanges k }
-    ensures value { result ≡ max_depth_of k }
-    ensures low { pos 0 ≤ℤ result }
-    ensures high { result ≤ℤ pos 17000000 }
-{
-    k.far + k.mu
-}
-
-fn reach_x(k: CameraFields) -> i64
-    requires { HasRanges k }
-    ensures value { result ≡ reach_x_of k }
-    ensures low { pos 0 ≤ℤ result }
-{
-    reach(max_depth(k), k.fx, k.width, k.cx)
-}
-
-fn reach_y(k: CameraFields) -> i64
-    requires { HasRanges k }
-    ensures value { result ≡ reach_y_of k }
-    ensures low { pos 0 ≤ℤ result }
-{
-    reach(max_depth(k), k.fy, k.height, k.cy)
-}
-
 fn reach_z(max_depth: i64, centre: i64) -> i64
     requires max_depth { pos 0 ≤ℤ max_depth }
     requires max_depth_high { max_depth ≤ℤ pos 17000000 }
@@ -185,7 +133,7 @@ fn reach_z(max_depth: i64, centre: i64) -> i64
     centre.max((max_depth - centre).abs())
 }
 
-// What rounding may add to a margin.
+/// What rounding may add to a margin.
 fn rounding(x: i64, y: i64, z: i64) -> i64
     requires x { pos 0 ≤ℤ x }
     requires x_high { x ≤ℤ pos 17000000 }
@@ -270,7 +218,7 @@ fn fits_sphere(k: CameraFields, x: i64, y: i64) -> bool
     requires y_high { y ≤ℤ pos 17000000 }
     ensures { result ≡ fits_sphere_of k }
 {
-    let z = max_depth(k);
+    let z = max_depth(&k);
     let m = opening_margin(k.voxel, rounding(x, y, z));
     is_in_sphere(x, y, reach_z(z, k.centre), m, k.radius)
 }
@@ -280,8 +228,9 @@ pub fn check_opening(k: CameraFields) -> Result<(), BadCamera>
     requires { HasRanges k }
     ensures { result ≡ (if has_reach_of k then (if fits_sphere_of k then Ok tt else Err Sphere) else Err Reach) }
 {
-    let x = reach_x(k);
-    let y = reach_y(k);
+    let top = max_depth(&k);
+    let x = reach(top, k.fx, k.width, k.cx);
+    let y = reach(top, k.fy, k.height, k.cy);
     if !in_reach(x, y) {
         return Err(BadCamera::Reach);
     }

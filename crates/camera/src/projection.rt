@@ -4,6 +4,7 @@ ghost use Rattle.fixed_geom.specs.Vectors.{AreWithin, IsWithin};
 ghost use Rattle.camera.specs.Cameras.{HasRanges, depth_of, is_in_image, project as pixel_of, within};
 
 use crate::camera::CameraFields;
+use crate::shared::{is_between, times};
 use fixed_geom::Vec3;
 
 /// The depth that a raw sample tells, in micrometres. `None` where the sample is 0, or the depth is
@@ -79,15 +80,6 @@ fn pixel_times_depth(f: i64, c: i64, x: i64, z: i64) -> i64
     (times(f, x) + times(c + 32768, z)).div_euclid(65536) as i64
 }
 
-fn times(a: i64, b: i64) -> i128
-    requires a { IsWithin (pos (2 ^ 30)) a }
-    requires b { IsWithin (pos (2 ^ 42)) b }
-    ensures value { result ≡ a *ℤ b }
-    ensures bound { unsigned_abs result ≤ 2 ^ 72 }
-{
-    i128::from(a) * i128::from(b)
-}
-
 /// The same for a point within `2^26`.
 fn near_pixel_times_depth(f: i64, c: i64, x: i64, z: i64) -> i64
     requires f { IsWithin (pos (2 ^ 30)) f }
@@ -123,12 +115,6 @@ fn is_across(scaled: i64, size: i64, z: i64) -> bool
     ensures { result ≡ within (pos 0) (size -ℤ pos 1) (floor_div scaled z) }
 {
     is_between(0, size * z - 1, scaled)
-}
-
-fn is_between(low: i64, high: i64, value: i64) -> bool
-    ensures { result ≡ within low high value }
-{
-    low <= value && value <= high
 }
 
 /// The pixel coordinate `scaled / z`. Where both fit 32 bits so does the division, which is far quicker then.

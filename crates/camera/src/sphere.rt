@@ -11,12 +11,12 @@ pub fn is_in_sphere(camera: &CameraFields, point: Vec3) -> bool
     requires point { AreWithin (pos (2 ^ 42)) point }
     ensures { result ≡ is_in_sphere_of camera.now point }
 {
-    let way = way_from_centre(camera, point.z);
-    squared(point.x) + squared(point.y) + squared(way) <= squared(camera.radius)
+    let offset = offset_from_centre(camera, point.z);
+    squared(point.x) + squared(point.y) + squared(offset) <= squared(camera.radius)
 }
 
-/// How far a depth lies behind the centre of the sphere, on the axis.
-fn way_from_centre(camera: &CameraFields, depth: i64) -> i64
+/// The offset of a depth from the centre of the sphere, on the axis.
+fn offset_from_centre(camera: &CameraFields, depth: i64) -> i64
     requires camera { HasRanges camera.now }
     requires depth { IsWithin (pos (2 ^ 42)) depth }
     ensures value { result ≡ depth -ℤ camera.now.centre }

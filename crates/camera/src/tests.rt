@@ -31,6 +31,9 @@ fn point(x: i64, y: i64, z: i64) -> Vec3
     Vec3 { x, y, z }
 }
 
+// Takes what threads can share.
+fn is_shared<T: Send + Sync>(_value: &T) {}
+
 fn key(x: i16, y: i16, z: i16) -> BlockKey {
     BlockKey { x, y, z }
 }
@@ -38,13 +41,19 @@ fn key(x: i16, y: i16, z: i16) -> BlockKey {
 #[test]
 fn fields_are_judged(rt: HostRuntime) {
     let cases = [
-        (BASE, None),
+        ("base", BASE, None),
         (
+            "voxel size below 1 millimetre",
             CameraFields { voxel: 999, ..BASE },
             Some(BadCamera::Field(11)),
         ),
-        (CameraFields { fx: 1, ..BASE }, Some(BadCamera::Reach)),
         (
+            "reach past 17 metres",
+            CameraFields { fx: 1, ..BASE },
+            Some(BadCamera::Reach),
+        ),
+        (
+            "radius one too small",
             CameraFields {
                 radius: 2016108,
                 ..BASE
@@ -52,14 +61,20 @@ fn fields_are_judged(rt: HostRuntime) {
             Some(BadCamera::Sphere),
         ),
         (
+            "least radius",
             CameraFields {
                 radius: 2016109,
                 ..BASE
             },
             None,
         ),
-        (CameraFields { width: 0, ..BASE }, Some(BadCamera::Field(2))),
         (
+            "no width",
+            CameraFields { width: 0, ..BASE },
+            Some(BadCamera::Field(2)),
+        ),
+        (
+            "width past 2048",
             CameraFields {
                 width: 2049,
                 ..BASE
@@ -67,6 +82,7 @@ fn fields_are_judged(rt: HostRuntime) {
             Some(BadCamera::Field(2)),
         ),
         (
+            "least number as width",
             CameraFields {
                 width: i64::MIN,
                 ..BASE
@@ -74,18 +90,25 @@ fn fields_are_judged(rt: HostRuntime) {
             Some(BadCamera::Field(2)),
         ),
         (
+            "centre past the width",
             CameraFields { cx: 65537, ..BASE },
             Some(BadCamera::Field(6)),
         ),
         (
+            "least number as centre",
             CameraFields {
                 cx: i64::MIN,
                 ..BASE
             },
             Some(BadCamera::Field(6)),
         ),
-        (CameraFields { near: 0, ..BASE }, Some(BadCamera::Field(9))),
         (
+            "nearest depth 0",
+            CameraFields { near: 0, ..BASE },
+            Some(BadCamera::Field(9)),
+        ),
+        (
+            "far before near",
             CameraFields {
                 far: 499999,
                 ..BASE
@@ -93,14 +116,17 @@ fn fields_are_judged(rt: HostRuntime) {
             Some(BadCamera::Field(10)),
         ),
         (
+            "truncation distance below the voxel size",
             CameraFields { mu: 9999, ..BASE },
             Some(BadCamera::Field(12)),
         ),
         (
+            "no radius",
             CameraFields { radius: 0, ..BASE },
             Some(BadCamera::Field(13)),
         ),
         (
+            "centre past 17 metres",
             CameraFields {
                 centre: 17000001,
                 ..BASE
@@ -108,6 +134,7 @@ fn fields_are_judged(rt: HostRuntime) {
             Some(BadCamera::Field(14)),
         ),
         (
+            "a field before the reach",
             CameraFields {
                 fx: 1,
                 voxel: 999,
@@ -116,8 +143,8 @@ fn fields_are_judged(rt: HostRuntime) {
             Some(BadCamera::Field(11)),
         ),
     ];
-    for (fields, refused) in cases {
-        assert_eq!(rt; Camera::make(fields).err(), refused, "{fields:?}");
+    for (name, fields, refused) in cases {
+        assert_eq!(rt; Camera::make(fields).err(), refused, "{name}");
     }
 }
 
@@ -125,25 +152,36 @@ fn fields_are_judged(rt: HostRuntime) {
 fn a_camera_takes_depths_and_pixels(rt: HostRuntime) -> Result<(), BadCamera> {
     let camera = Camera::make(BASE)?;
     assert_eq!(rt; camera.fields(), BASE);
-    for (raw, depth) in [
-        (0, None),
-        (499, None),
-        (500, Some(500000)),
-        (2000, Some(2000000)),
-        (2001, None),
+    is_shared(&camera);
+    is_shared(&BASE);
+    is_shared(&PixelRays::of(&camera));
+    for (name, raw, depth) in [
+        ("no sample", 0, None),
+        ("before near", 499, None),
+        ("near", 500, Some(500000)),
+        ("far", 2000, Some(2000000)),
+        ("past far", 2001, None),
     ] {
-        assert_eq!(rt; camera.depth(raw), depth, "{raw}");
+        assert_eq!(rt; camera.depth(raw), depth, "{name}");
     }
-    assert_eq!(rt; camera.project(point(0, 0, 1000000)), Some((0, 0)));
-    assert_eq!(rt; camera.project(point(0, 0, 0)), None);
-    assert_eq!(rt; camera.project_near(point(0, 0, 1000000)), Some((0, 0)));
-    assert_eq!(rt; camera.project_near(point(1000000, 0, 1000000)), None);
-    assert_eq!(rt; camera.project_near(point(0, 0, 0)), None);
-    assert_eq!(rt; camera.ray(0, 0, 1000000), point(0, 0, 1000000));
-    assert_eq!(rt;
-        PixelRays::of(&camera).point(0, 0, 1000000),
-        point(0, 0, 1000000)
-    );
+    let ahead = Vec3 {
+        x: 0,
+        y: 0,
+        z: 1000000,
+    };
+    let beside = Vec3 {
+        x: 1000000,
+        y: 0,
+        z: 1000000,
+    };
+    let at_camera = Vec3 { x: 0, y: 0, z: 0 };
+    assert_eq!(rt; camera.project(ahead), Some((0, 0)));
+    assert_eq!(rt; camera.project(beside), None);
+    assert_eq!(rt; camera.project(at_camera), None);
+    assert_eq!(rt; camera.project_near(ahead), Some((0, 0)));
+    assert_eq!(rt; camera.project_near(beside), None);
+    assert_eq!(rt; camera.project_near(at_camera), None);
+    assert_eq!(rt; camera.ray(0, 0, 1000000), ahead);
     Ok(())
 }
 
@@ -177,8 +215,15 @@ fn blocks_are_active_and_may_be_seen(rt: HostRuntime) -> Result<(), Fail> {
     assert!(rt; camera.active(&pose, key(0, 0, 12)));
     assert!(rt; !camera.active(&pose, key(26, 0, 12)));
     assert!(rt; camera.may_see(&pose, key(0, 0, 12)));
-    for (x, z) in [(0, -13), (0, 400), (100, 12)] {
-        assert!(rt; !camera.may_see(&pose, key(x, 0, z)), "{x} {z}");
+    for (name, x, z) in [("behind", 0, -13), ("too far", 0, 400), ("beside", 100, 12)] {
+        assert!(rt; !camera.may_see(&pose, key(x, 0, z)), "{name}");
     }
+    Ok(())
+}
+
+#[test]
+fn refusals_have_words(rt: HostRuntime) -> Result<(), Fail> {
+    let bad = BadCamera::Field(2).to_string(rt.alloc())?;
+    assert_eq!(rt; bad.as_str(), "the width is out of its range");
     Ok(())
 }

@@ -1,10 +1,11 @@
-ghost use Rattle.std.specs.Prelude.{◌≡◌, ◌^◌, ◌≤◌, pos, neg_ℤ, ◌+ℤ◌, ◌-ℤ◌, ◌*ℤ◌, ◌≤ℤ◌, int_le, unsigned_abs};
+ghost use Rattle.std.specs.Prelude.{◌≡◌, ◌^◌, pos, neg_ℤ, ◌+ℤ◌, ◌-ℤ◌, ◌*ℤ◌, ◌≤ℤ◌, int_le};
 ghost use Rattle.std.specs.Int.{int_max};
 ghost use Rattle.fixed_geom.specs.Vectors.{AreWithin, IsWithin};
-ghost use Rattle.camera.specs.Cameras.{HasRanges, max_depth as max_depth_of, left as left_of, right as right_of};
+ghost use Rattle.camera.specs.Cameras.{HasRanges, right as right_of};
 ghost use Rattle.camera.specs.Visibility.{is_at_depth as is_at_depth_of, is_between_sides as is_between_sides_of, is_in_view as is_in_view_of, margin as margin_of, may_be_seen_at, side_depth as side_depth_of};
 
 use crate::camera::CameraFields;
+use crate::shared::{left, max_depth, times};
 use fixed_geom::Vec3;
 
 /// Whether a block whose centre has this camera point may be seen. Where it may not, none of its
@@ -23,8 +24,8 @@ fn is_at_depth(camera: &CameraFields, z: i64) -> bool
     requires z { IsWithin (pos (2 ^ 42)) z }
     ensures { result ≡ is_at_depth_of camera.now z }
 {
-    let round = margin(camera);
-    1 <= z + round && z - round <= max_depth(camera)
+    let margin = margin(camera);
+    1 <= z + margin && z - margin <= max_depth(camera)
 }
 
 /// Whether points between the sides of the image are near this camera point.
@@ -33,27 +34,9 @@ fn is_in_view(camera: &CameraFields, centre: Vec3) -> bool
     requires centre { AreWithin (pos (2 ^ 42)) centre }
     ensures { result ≡ is_in_view_of camera.now centre }
 {
-    is_in_columns(camera, centre) && is_in_rows(camera, centre)
-}
-
-/// Whether points between the left and the right side are near.
-fn is_in_columns(camera: &CameraFields, centre: Vec3) -> bool
-    requires camera { HasRanges camera.now }
-    requires centre { AreWithin (pos (2 ^ 42)) centre }
-    ensures { result ≡ is_between_sides_of camera.now.fx camera.now.cx camera.now.width (margin_of camera.now) centre.x (side_depth_of camera.now centre.z) }
-{
-    let (round, depth) = (margin(camera), side_depth(camera, centre.z));
-    is_between_sides(camera.fx, camera.cx, camera.width, round, centre.x, depth)
-}
-
-/// Whether points between the upper and the lower side are near.
-fn is_in_rows(camera: &CameraFields, centre: Vec3) -> bool
-    requires camera { HasRanges camera.now }
-    requires centre { AreWithin (pos (2 ^ 42)) centre }
-    ensures { result ≡ is_between_sides_of camera.now.fy camera.now.cy camera.now.height (margin_of camera.now) centre.y (side_depth_of camera.now centre.z) }
-{
-    let (round, depth) = (margin(camera), side_depth(camera, centre.z));
-    is_between_sides(camera.fy, camera.cy, camera.height, round, centre.y, depth)
+    let (margin, depth) = (margin(camera), side_depth(camera, centre.z));
+    is_between_sides(camera.fx, camera.cx, camera.width, margin, centre.x, depth)
+        && is_between_sides(camera.fy, camera.cy, camera.height, margin, centre.y, depth)
 }
 
 /// How far from the camera point of a block's centre the test looks: 14 voxels.
@@ -63,15 +46,6 @@ fn margin(camera: &CameraFields) -> i64
     ensures bound { IsWithin (pos 1400000) result }
 {
     14 * camera.voxel
-}
-
-/// The greatest depth that a frame may touch.
-fn max_depth(camera: &CameraFields) -> i64
-    requires { HasRanges camera.now }
-    ensures value { result ≡ max_depth_of camera.now }
-    ensures bound { IsWithin (pos 17000000) result }
-{
-    camera.far + camera.mu
 }
 
 /// The greatest depth near `z` that a frame may touch.
@@ -84,30 +58,21 @@ fn side_depth(camera: &CameraFields, z: i64) -> i64
     (z + margin(camera)).min(max_depth(camera))
 }
 
-/// Whether what is within `round` of `x` reaches between both sides of the image at a depth.
-fn is_between_sides(f: i64, c: i64, size: i64, round: i64, x: i64, depth: i64) -> bool
+/// Whether what is within `margin` of `x` reaches between both sides of the image at a depth.
+fn is_between_sides(f: i64, c: i64, size: i64, margin: i64, x: i64, depth: i64) -> bool
     requires f { IsWithin (pos (2 ^ 30)) f }
     requires c { IsWithin (pos (2 ^ 27)) c }
     requires size { IsWithin (pos 2048) size }
-    requires round { IsWithin (pos 1400000) round }
+    requires margin { IsWithin (pos 1400000) margin }
     requires x { IsWithin (pos (2 ^ 42)) x }
     requires depth { IsWithin (pos (2 ^ 43)) depth }
-    ensures { result ≡ is_between_sides_of f c size round x depth }
+    ensures { result ≡ is_between_sides_of f c size margin x depth }
 {
-    reaches_low_side(f, x + round, left(c), depth)
-        && reaches_high_side(f, x - round, right(size, c), depth)
+    reaches_low_side(f, x + margin, left(c), depth)
+        && reaches_high_side(f, x - margin, right(size, c), depth)
 }
 
-/// What the image has on the left of its centre, in 1/65536 pixel.
-fn left(c: i64) -> i64
-    requires { IsWithin (pos (2 ^ 27)) c }
-    ensures value { result ≡ left_of c }
-    ensures bound { IsWithin (pos (2 ^ 30)) result }
-{
-    c + 32768
-}
-
-/// What it has on the right, at least 0.
+/// What the image has on the right of its centre, at least 0.
 fn right(size: i64, c: i64) -> i64
     requires size { IsWithin (pos 2048) size }
     requires c { IsWithin (pos (2 ^ 27)) c }
@@ -137,13 +102,4 @@ fn reaches_high_side(f: i64, x: i64, side: i64, depth: i64) -> bool
     ensures { result ≡ int_le (f *ℤ x) (side *ℤ depth) }
 {
     times(f, x) <= times(side, depth)
-}
-
-fn times(a: i64, b: i64) -> i128
-    requires a { IsWithin (pos (2 ^ 30)) a }
-    requires b { IsWithin (pos (2 ^ 43)) b }
-    ensures value { result ≡ a *ℤ b }
-    ensures bound { unsigned_abs result ≤ 2 ^ 73 }
-{
-    i128::from(a) * i128::from(b)
 }

@@ -34,16 +34,6 @@ digit_fits n k d h small few =
 
 -- ---- the nearest whole number
 
-halved : (x : ℤ) → round_div x (pos 1) ≡ x
-halved (pos m) = omega (arith, ints)
-halved (negsuc m) =
-    let e : pos 2 *ℤ negsuc m +ℤ pos 1 ≡ negsuc (2 * m) = omega (arith, ints) in
-    ap (λ (z : ℤ). int_div_euclid z (pos 2)) e ∙ ap negsuc (omega arith)
-
-pub nearest_above : (a power q : ℤ) → pos 0 ≤ℤ power → q ≡ a *ℤ pos (10 ^ unsigned_abs power) → q ≡ nearest_of a power
-nearest_above a (pos n) q h is = is ∙ sym (halved (a *ℤ pos (10 ^ n)))
-nearest_above a (negsuc n) q h is = absurd (omega (arith, ints))
-
 pub nearest_below : (a power q : ℤ) → power <ℤ pos 0 → q ≡ round_div a (pos (10 ^ unsigned_abs power)) → q ≡ nearest_of a power
 nearest_below a (pos n) q h is = absurd (omega (arith, ints))
 nearest_below a (negsuc n) q h is = let e : a *ℤ pos 1 ≡ a = omega (arith, ints) in rw e is

@@ -28,17 +28,17 @@ sum_within k a b c u v w = record { low = omega (arith, ints); high = omega (ari
 pub within_dot : (m n : ℤ) (a b : Vec3) → AreWithin m a → AreWithin n b → IsWithin (pos 3 *ℤ (m *ℤ n)) (dot a b)
 within_dot m n a b v w = sum_within (m *ℤ n) (a.x *ℤ b.x) (a.y *ℤ b.y) (a.z *ℤ b.z) (within_product m n a.x b.x v.x w.x) (within_product m n a.y b.y v.y w.y) (within_product m n a.z b.z v.z w.z)
 
--- the way from t to p less the way from t to q
-ways : (p q t : ℤ) → (p -ℤ t) -ℤ (q -ℤ t) ≡ p -ℤ q
-ways p q t = omega (arith, ints)
+-- the offset of p from t less that of q from t
+offsets : (p q t : ℤ) → (p -ℤ t) -ℤ (q -ℤ t) ≡ p -ℤ q
+offsets p q t = omega (arith, ints)
 
 one_axis : (c p q t : ℤ) → (c *ℤ (p -ℤ t)) -ℤ (c *ℤ (q -ℤ t)) ≡ c *ℤ (p -ℤ q)
-one_axis c p q t = sym (mul_difference c (p -ℤ t) (q -ℤ t)) ∙ ap (λ (z : ℤ). c *ℤ z) (ways p q t)
+one_axis c p q t = sym (mul_difference c (p -ℤ t) (q -ℤ t)) ∙ ap (λ (z : ℤ). c *ℤ z) (offsets p q t)
 
 three_differences : (a b c a' b' c' x y z : ℤ) → a -ℤ a' ≡ x → b -ℤ b' ≡ y → c -ℤ c' ≡ z → (a +ℤ b +ℤ c) -ℤ (a' +ℤ b' +ℤ c') ≡ x +ℤ y +ℤ z
 three_differences a b c a' b' c' x y z e f g = omega (arith, ints)
 
--- the forms of two points differ by the column times their difference
+-- the scaled camera coordinates of two points differ by the column times their difference
 pub cam_q30_axis_difference : (c t p q : Vec3) → cam_q30_axis c t p -ℤ cam_q30_axis c t q ≡ dot c (minus p q)
 cam_q30_axis_difference c t p q =
     three_differences (c.x *ℤ (p.x -ℤ t.x)) (c.y *ℤ (p.y -ℤ t.y)) (c.z *ℤ (p.z -ℤ t.z)) (c.x *ℤ (q.x -ℤ t.x)) (c.y *ℤ (q.y -ℤ t.y)) (c.z *ℤ (q.z -ℤ t.z)) (c.x *ℤ (p.x -ℤ q.x)) (c.y *ℤ (p.y -ℤ q.y)) (c.z *ℤ (p.z -ℤ q.z))

@@ -36,16 +36,6 @@ mean_between w f g low high w0 lf lg fh gh =
     past : (wh wf h g w dh : ℤ) → pos 0 ≤ℤ w → dh ≡ pos 2 *ℤ (wh +ℤ h) → wf ≤ℤ wh → g ≤ℤ h → (pos 2 *ℤ (wf +ℤ g) +ℤ (w +ℤ pos 1)) <ℤ (dh +ℤ pos 2 *ℤ (w +ℤ pos 1))
     past wh wf h g w dh a b c d = omega (arith, ints)
 
--- the mean of a number with itself is the number
-pub mean_same : (w f : ℤ) → pos 0 ≤ℤ w → mean w f f ≡ f
-mean_same w f w0 = let b = mean_between w f f f f w0 (self f) (self f) (self f) (self f) in meet (mean w f f) f b.0 b.1
-  where
-    self : (z : ℤ) → z ≤ℤ z
-    self z = omega (arith, ints)
-
-    meet : (x y : ℤ) → y ≤ℤ x → x ≤ℤ y → x ≡ y
-    meet x y a b = omega (arith, ints)
-
 -- the distance of a point eta before the surface, in units of mu / 32767, cut off at 32767
 abbrev pub distance : (eta mu : ℤ) → ℤ
 distance eta mu = int_min (pos 32767) (floor_div (pos 32767 *ℤ eta) mu)
@@ -61,36 +51,3 @@ distance_within eta mu m1 le =
 
     ended : (q : ℤ) → (neg_ℤ (pos 32767)) ≤ℤ q → IsWithin (pos 32767) (int_min (pos 32767) q)
     ended q h = record { low = omega (arith, ints, clamps); high = omega (arith, ints, clamps) }
-
--- a weight of 0 takes the new distance
-pub mean_of_none : (f g : ℤ) → mean (pos 0) f g ≡ g
-mean_of_none f g =
-    let n = pos 2 *ℤ (pos 0 *ℤ f +ℤ g) +ℤ (pos 0 +ℤ pos 1) in
-    let two : pos 1 ≤ℤ pos 2 = omega (arith, ints) in
-    let is = floor_is n (pos 2) two in
-    only (mean (pos 0) f g) g (floor_above n (pos 2) (mean (pos 0) f g) g two is (under f g)) (floor_below n (pos 2) (mean (pos 0) f g) g two is (past f g))
-  where
-    under : (f g : ℤ) → (pos 2 *ℤ g) ≤ℤ (pos 2 *ℤ (pos 0 *ℤ f +ℤ g) +ℤ (pos 0 +ℤ pos 1))
-    under f g = omega (arith, ints)
-
-    past : (f g : ℤ) → (pos 2 *ℤ (pos 0 *ℤ f +ℤ g) +ℤ (pos 0 +ℤ pos 1)) <ℤ (pos 2 *ℤ g +ℤ pos 2)
-    past f g = omega (arith, ints)
-
-    only : (x y : ℤ) → y ≤ℤ x → x ≤ℤ y → x ≡ y
-    only x y a b = omega (arith, ints)
-
--- between f > 0 and g ≤ 0 the crossing is at a place of 0 to s
-pub crossing_within : (s f g : ℤ) → pos 0 ≤ℤ s → pos 1 ≤ℤ f → g ≤ℤ pos 0 → (pos 0 ≤ℤ floor_div (s *ℤ f) (f -ℤ g)) × (floor_div (s *ℤ f) (f -ℤ g) ≤ℤ s)
-crossing_within s f g s0 f1 g0 =
-    let d = f -ℤ g in
-    let d1 : pos 1 ≤ℤ d = omega (arith, ints) in
-    let is = floor_is (s *ℤ f) d d1 in (
-      floor_above (s *ℤ f) d (floor_div (s *ℤ f) d) (pos 0) d1 is (zero d (s *ℤ f) (s *ℤ pos 0) (mul_order s (pos 0) f s0 (omega (arith, ints))) (omega (arith, ints))),
-      floor_below (s *ℤ f) d (floor_div (s *ℤ f) d) s d1 is (past (s *ℤ f) (s *ℤ d) (d *ℤ s) d (mul_order s f d s0 (omega (arith, ints))) (mul_turn d s) d1),
-    )
-  where
-    zero : (d x y : ℤ) → y ≤ℤ x → y ≡ pos 0 → (d *ℤ pos 0) ≤ℤ x
-    zero d x y a b = omega (arith, ints)
-
-    past : (x y z d : ℤ) → x ≤ℤ y → z ≡ y → pos 1 ≤ℤ d → x <ℤ (z +ℤ d)
-    past x y z d a b c = omega (arith, ints)

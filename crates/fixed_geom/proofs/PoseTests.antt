@@ -8,15 +8,8 @@ use Rattle.fixed_geom.specs.Vectors.{vec, IsWithin, AreWithin}
 use Rattle.fixed_geom.specs.Poses.{Pose, HasPoseRange, IsNearRotation, IsPose, of_rows}
 use Rattle.fixed_geom.specs.PoseTest.{accepted, entry, pose_of, is_within, are_within, has_pose_range, is_near_rotation}
 
-both_parts : (a b : Bool) → IsTrue (a && b) → IsTrue a × IsTrue b
-both_parts a b t = search rules
-
 both : (a b : Bool) → IsTrue a → IsTrue b → IsTrue (a && b)
 both a b s t = search rules
-
--- a test of two is the two tests
-pub both_mean : {P Q : Type 0} (a b : Bool) → IsTrue a ↔ P → IsTrue b ↔ Q → IsTrue (a && b) ↔ (P × Q)
-both_mean a b p q = ((λ x. let y = both_parts a b x in (p.0 y.0, q.0 y.1)), (λ t. both a b (p.1 t.0) (q.1 t.1)))
 
 pub within_test : (n z : ℤ) → IsTrue (is_within n z) ↔ IsWithin n z
 within_test n z = search rules
@@ -110,15 +103,6 @@ refused_rotation m e f = rw (e, f) refl
 
 pub refused_range : (m : Pose) → has_pose_range m ≡ false → accepted m ≡ Err Range
 refused_range m e = rw e refl
-
--- a pose that is accepted is one
-pub accepted_is_pose : (m : Pose) → IfOk (accepted m) IsPose
-accepted_is_pose m = by_tests m (has_pose_range m) (is_near_rotation m) refl refl
-  where
-    by_tests : (m : Pose) (a b : Bool) → has_pose_range m ≡ a → is_near_rotation m ≡ b → IfOk (accepted m) IsPose
-    by_tests m true true e f = rw (accepted_pose m e f) (record { range = in_range m e; rotation = is_rotation m f })
-    by_tests m true false e f = rw (refused_rotation m e f) tt
-    by_tests m false b e f = rw (refused_range m e) tt
 
 -- it is refused by its range exactly where the bounds fail
 pub range_refusal : (m : Pose) → (accepted m ≡ Err Range) ↔ (¬ HasPoseRange m)

@@ -92,7 +92,7 @@ left_within u a b c v small =
 abbrev raised : (t a b c v : Vec3) → Vec3
 raised t a b c v = vec (t.x +ℤ floor_div (dot (vec a.x b.x c.x) v) unit) (t.y +ℤ floor_div (dot (vec a.y b.y c.y) v) unit) (t.z +ℤ floor_div (dot (vec a.z b.z c.z) v) unit)
 
--- the form of a world point, times the unit
+-- a scaled camera coordinate of a world point, times the unit
 cam_q30_axis_raised : (u t a b c v : Vec3) → unit *ℤ cam_q30_axis u t (raised t a b c v) ≡ ((dot u a *ℤ v.x) +ℤ (dot u b *ℤ v.y) +ℤ (dot u c *ℤ v.z)) -ℤ left_of u a b c v
 cam_q30_axis_raised u t a b c v =
     let x = dot (vec a.x b.x c.x) v in
@@ -111,7 +111,7 @@ near_three n a b c x y z p q r u v w e = added (n *ℤ a) (n *ℤ b) (n *ℤ c) 
     added : (a b c s x y z p q r : ℤ) → IsWithin a (x -ℤ p) → IsWithin b (y -ℤ q) → IsWithin c (z -ℤ r) → s ≡ a +ℤ b +ℤ c → IsWithin s ((x +ℤ y +ℤ z) -ℤ (p +ℤ q +ℤ r))
     added a b c s x y z p q r u v w e = record { low = omega (arith, ints); high = omega (arith, ints) }
 
--- the last step, over plain numbers: n the form, c its floor, g the products' sum, v the coordinate, l what is left, m the sum of the bounds, q its floor by 1024
+-- the last step, over plain numbers: n the scaled camera coordinate, c its floor, g the products' sum, v the coordinate, l what is left, m the sum of the bounds, q its floor by 1024
 back : (n c g v l m q : ℤ) → unit *ℤ n ≡ g -ℤ l → IsFloor n unit c → IsWithin (nearness *ℤ m) (g -ℤ (unit_squared *ℤ v)) → IsWithin (pos 3 *ℤ (entry_bound *ℤ unit)) l → IsFloor m (pos 1024) q → IsWithin (q +ℤ pos 8) (c -ℤ v)
 back n c g v l m q e f w k d = record {
   low = omega (arith, ints, f.below, f.above, d.below, d.above, w.low, w.high, k.low, k.high);
@@ -157,10 +157,3 @@ round_trip m v a b c o x y z =
       y = on_axis j m.t i j k v (pos 0) unit_squared (pos 0) v.y a b c s.1 (turned (pos 0) (dot i j) (dot j i) (dot_turn i j) n.xy) n.yy n.yz x y z (only_y v.x v.y v.z);
       z = on_axis k m.t i j k v (pos 0) (pos 0) unit_squared v.z a b c s.2 (turned (pos 0) (dot i k) (dot k i) (dot_turn i k) n.xz) (turned (pos 0) (dot j k) (dot k j) (dot_turn j k) n.yz) n.zz x y z (only_z v.x v.y v.z);
     }
-
--- the same with the sizes of the coordinates
-pub round_trip_by_size : (m : Pose) (v : Vec3) → IsPose m → AreWithin (floor_div (pos (unsigned_abs v.x + unsigned_abs v.y + unsigned_abs v.z)) (pos 1024) +ℤ pos 8) (minus (cam m (world m v)) v)
-round_trip_by_size m v o = round_trip m v (pos (unsigned_abs v.x)) (pos (unsigned_abs v.y)) (pos (unsigned_abs v.z)) o (own v.x) (own v.y) (own v.z)
-  where
-    own : (z : ℤ) → IsWithin (pos (unsigned_abs z)) z
-    own z = record { low = omega (arith, ints); high = omega (arith, ints) }

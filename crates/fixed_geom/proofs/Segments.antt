@@ -31,7 +31,7 @@ off_from p q a e d t =
     plain : (qd qt qa pa pt pe aq pea qdt qpat qat pat pet : ℤ) → aq ≡ qa → pea ≡ pe -ℤ pa → qdt ≡ qd -ℤ qt → qpat ≡ qat -ℤ pat → qat ≡ qa -ℤ qt → pat ≡ pa -ℤ pt → pet ≡ pe -ℤ pt → qd -ℤ (aq +ℤ pea) ≡ qdt -ℤ (qpat +ℤ pet)
     plain qd qt qa pa pt pe aq pea qdt qpat qat pat pet a b c d e f g = omega (arith, ints)
 
--- one axis: an entry r times the way to q d, from the ways to the ends
+-- one axis: an entry r times the offset of q d, from the offsets of the ends
 axis_cam_q30 : (r p q a e d t : ℤ) → q *ℤ (r *ℤ (d -ℤ t)) ≡ (q -ℤ p) *ℤ (r *ℤ (a -ℤ t)) +ℤ p *ℤ (r *ℤ (e -ℤ t)) +ℤ r *ℤ (q *ℤ d -ℤ along p q a e)
 axis_cam_q30 r p q a e d t =
     plain (q *ℤ (r *ℤ (d -ℤ t))) ((q -ℤ p) *ℤ (r *ℤ (a -ℤ t))) (p *ℤ (r *ℤ (e -ℤ t))) (r *ℤ (q *ℤ d -ℤ along p q a e)) (r *ℤ (q *ℤ (d -ℤ t))) (r *ℤ ((q -ℤ p) *ℤ (a -ℤ t))) (r *ℤ (p *ℤ (e -ℤ t))) (r *ℤ ((q -ℤ p) *ℤ (a -ℤ t) +ℤ p *ℤ (e -ℤ t)))
@@ -42,7 +42,7 @@ axis_cam_q30 r p q a e d t =
     plain : (x y z w x' y' z' s : ℤ) → x ≡ x' → y ≡ y' → z ≡ z' → w ≡ x' -ℤ s → s ≡ y' +ℤ z' → x ≡ y +ℤ z +ℤ w
     plain x y z w x' y' z' s a b c d e = omega (arith, ints)
 
--- the form of d, from the forms of the ends
+-- the scaled camera coordinate of d, from those of the ends
 pub segment_cam_q30_axis : (c t a e d : Vec3) (p q : ℤ) → q *ℤ cam_q30_axis c t d ≡ (q -ℤ p) *ℤ cam_q30_axis c t a +ℤ p *ℤ cam_q30_axis c t e +ℤ dot c (off p q a e d)
 segment_cam_q30_axis c t a e d p q =
     plain (q *ℤ cam_q30_axis c t d) ((q -ℤ p) *ℤ cam_q30_axis c t a) (p *ℤ cam_q30_axis c t e)
@@ -67,7 +67,7 @@ weighed p q x = plain (q *ℤ x) (p *ℤ x) ((q -ℤ p) *ℤ x) (difference_mul 
     plain : (a b c : ℤ) → c ≡ a -ℤ b → c +ℤ b ≡ a
     plain a b c h = omega (arith, ints)
 
--- a lower bound of both ends' forms is one of the weighed sum
+-- a lower bound of both ends' scaled camera coordinates is one of the weighed sum
 pub lower_sum : (p q a e l : ℤ) → pos 0 ≤ℤ p → p ≤ℤ q → l ≤ℤ a → l ≤ℤ e → (q *ℤ l) ≤ℤ ((q -ℤ p) *ℤ a +ℤ p *ℤ e)
 lower_sum p q a e l p0 pq la le = plain ((q -ℤ p) *ℤ l) (p *ℤ l) (q *ℤ l) ((q -ℤ p) *ℤ a) (p *ℤ e) (weighed p q l) (mul_order (q -ℤ p) l a (omega (arith, ints)) la) (mul_order p l e p0 le)
   where

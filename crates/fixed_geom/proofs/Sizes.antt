@@ -1,4 +1,4 @@
--- Machine sizes: how large the form, the camera point and the world point of a point with coordinates within 2^40 may be.
+-- Bounds of the scaled camera coordinates, of the camera point and of the world point of a point within 2^40 on each axis.
 use Rattle.std.proofs.Common.{ℕ, ◌≤◌, arith}
 use Rattle.std.specs.Prelude.{ℤ, pos, ◌+ℤ◌, ◌-ℤ◌, ◌*ℤ◌, unsigned_abs}
 use Rattle.std.proofs.lemmas.Int.{ints}
@@ -10,83 +10,60 @@ use Rattle.fixed_geom.proofs.Floors.{floor_is}
 use Rattle.fixed_geom.proofs.Dots.{within_dot, within_product, unit_positive, columns_small}
 use Rattle.fixed_geom.proofs.Worlds.{floor_within}
 
--- a bound on the size of a number, and back
-pub within_from_size : (n : ℕ) (z : ℤ) → unsigned_abs z ≤ n → IsWithin (pos n) z
-within_from_size n z h = record { low = omega (arith, ints); high = omega (arith, ints) }
-
-pub size_from_within : (n : ℕ) (z : ℤ) → IsWithin (pos n) z → unsigned_abs z ≤ n
-size_from_within n z w = omega (arith, ints)
-
 -- 2^40 and 2^42
-abbrev pub wide : ℤ
-wide = pos 1099511627776
+abbrev pub point_bound : ℤ
+point_bound = pos 1099511627776
 
-abbrev pub wider : ℤ
-wider = pos 4398046511104
+abbrev pub cam_bound : ℤ
+cam_bound = pos 4398046511104
 
--- 2^40 and 10^8: a way from the translation; and 2^42 less 10^8: how far such a way goes along a row or a column
-abbrev pub way_wide : ℤ
-way_wide = pos 1099611627776
+-- 2^40 and 10^8: an offset from the translation; and 2^42 less 10^8: how far such an offset goes along a row or a column
+abbrev pub offset_bound : ℤ
+offset_bound = pos 1099611627776
 
-abbrev pub along_wide : ℤ
-along_wide = pos 4397946511104
+abbrev pub along_bound : ℤ
+along_bound = pos 4397946511104
 
--- the way from the translation
-pub way_within : (t p : Vec3) → AreWithin translation_bound t → AreWithin wide p → AreWithin way_wide (minus p t)
-way_within t p far near = record { x = axis p.x t.x near.x far.x; y = axis p.y t.y near.y far.y; z = axis p.z t.z near.z far.z }
+-- the offset from the translation
+pub offset_within : (t p : Vec3) → AreWithin translation_bound t → AreWithin point_bound p → AreWithin offset_bound (minus p t)
+offset_within t p far near = record { x = axis p.x t.x near.x far.x; y = axis p.y t.y near.y far.y; z = axis p.z t.z near.z far.z }
   where
-    axis : (p t : ℤ) → IsWithin wide p → IsWithin translation_bound t → IsWithin way_wide (p -ℤ t)
+    axis : (p t : ℤ) → IsWithin point_bound p → IsWithin translation_bound t → IsWithin offset_bound (p -ℤ t)
     axis p t v w = record { low = omega (arith, ints); high = omega (arith, ints) }
 
--- the product of a row or a column and such a way has at most 72 bits
-pub line_within : (line way : Vec3) → AreWithin entry_bound line → AreWithin way_wide way → IsWithin (pos 4722366482869645213696) (dot line way)
-line_within line way small near = plain (dot line way) (within_dot entry_bound way_wide line way small near)
+-- the product of a row or a column and such an offset has at most 72 bits
+pub line_within : (line offset : Vec3) → AreWithin entry_bound line → AreWithin offset_bound offset → IsWithin (pos 4722366482869645213696) (dot line offset)
+line_within line offset small near = plain (dot line offset) (within_dot entry_bound offset_bound line offset small near)
   where
-    plain : (x : ℤ) → IsWithin (pos 3 *ℤ (entry_bound *ℤ way_wide)) x → IsWithin (pos 4722366482869645213696) x
+    plain : (x : ℤ) → IsWithin (pos 3 *ℤ (entry_bound *ℤ offset_bound)) x → IsWithin (pos 4722366482869645213696) x
     plain x w = record { low = omega (arith, ints); high = omega (arith, ints) }
 
--- so has the form
-pub cam_q30_axis_within : (c t p : Vec3) → AreWithin entry_bound c → AreWithin translation_bound t → AreWithin wide p → IsWithin (pos 4722366482869645213696) (cam_q30_axis c t p)
-cam_q30_axis_within c t p small far near = line_within c (minus p t) small (way_within t p far near)
+-- so has a scaled camera coordinate
+pub cam_q30_axis_within : (c t p : Vec3) → AreWithin entry_bound c → AreWithin translation_bound t → AreWithin point_bound p → IsWithin (pos 4722366482869645213696) (cam_q30_axis c t p)
+cam_q30_axis_within c t p small far near = line_within c (minus p t) small (offset_within t p far near)
 
 -- and its floor at most 42 bits
-pub whole_within : (x : ℤ) → IsWithin (pos 4722366482869645213696) x → IsWithin wider (floor_div x unit)
-whole_within x w = plain (floor_div x unit) (floor_is x unit unit_positive)
+pub micrometres_within : (x : ℤ) → IsWithin (pos 4722366482869645213696) x → IsWithin cam_bound (floor_div x unit)
+micrometres_within x w = plain (floor_div x unit) (floor_is x unit unit_positive)
   where
-    plain : (q : ℤ) → IsFloor x unit q → IsWithin wider q
+    plain : (q : ℤ) → IsFloor x unit q → IsWithin cam_bound q
     plain q is = record { low = omega (arith, ints, is.below, is.above, w.low, w.high); high = omega (arith, ints, is.below, is.above, w.low, w.high) }
 
--- a way along a row or a column has at most 42 bits
-pub along_within : (line way : Vec3) → AreWithin entry_bound line → AreWithin way_wide way → IsWithin along_wide (floor_div (dot line way) unit)
-along_within line way small near = floor_within (dot line way) (floor_div (dot line way) unit) way_wide along_wide (floor_is (dot line way) unit unit_positive) (within_dot entry_bound way_wide line way small near) (omega (arith, ints))
+-- an offset along a row or a column has at most 42 bits
+pub along_within : (line offset : Vec3) → AreWithin entry_bound line → AreWithin offset_bound offset → IsWithin along_bound (floor_div (dot line offset) unit)
+along_within line offset small near = floor_within (dot line offset) (floor_div (dot line offset) unit) offset_bound along_bound (floor_is (dot line offset) unit unit_positive) (within_dot entry_bound offset_bound line offset small near) (omega (arith, ints))
 
--- so has the sum with a coordinate of the translation
-pub moved_within : (t w : ℤ) → IsWithin translation_bound t → IsWithin along_wide w → IsWithin wider (t +ℤ w)
-moved_within t w v a = record { low = omega (arith, ints); high = omega (arith, ints) }
-
-less_wide : (z : ℤ) → IsWithin along_wide z → IsWithin wider z
+less_wide : (z : ℤ) → IsWithin along_bound z → IsWithin cam_bound z
 less_wide z w = record { low = omega (arith, ints); high = omega (arith, ints) }
 
-all_wide : (v : Vec3) → AreWithin wide v → AreWithin way_wide v
-all_wide v w = record { x = axis v.x w.x; y = axis v.y w.y; z = axis v.z w.z }
-  where
-    axis : (z : ℤ) → IsWithin wide z → IsWithin way_wide z
-    axis z w = record { low = omega (arith, ints); high = omega (arith, ints) }
-
 -- so have the coordinates of the camera point and of the world point
-pub cam_on_within : (c t p : Vec3) → AreWithin entry_bound c → AreWithin translation_bound t → AreWithin wide p → IsWithin wider (cam_axis c t p)
-cam_on_within c t p small far near = less_wide (cam_axis c t p) (along_within c (minus p t) small (way_within t p far near))
+pub cam_on_within : (c t p : Vec3) → AreWithin entry_bound c → AreWithin translation_bound t → AreWithin point_bound p → IsWithin cam_bound (cam_axis c t p)
+cam_on_within c t p small far near = less_wide (cam_axis c t p) (along_within c (minus p t) small (offset_within t p far near))
 
-pub cam_within : (m : Pose) (p : Vec3) → HasPoseRange m → AreWithin wide p → AreWithin wider (cam m p)
+pub cam_within : (m : Pose) (p : Vec3) → HasPoseRange m → AreWithin point_bound p → AreWithin cam_bound (cam m p)
 cam_within m p r near =
     let c = columns_small m r in
     record { x = cam_on_within (column_x m) m.t p c.0 r.t near; y = cam_on_within (column_y m) m.t p c.1 r.t near; z = cam_on_within (column_z m) m.t p c.2 r.t near }
-
-world_on_within : (r v : Vec3) (t : ℤ) → AreWithin entry_bound r → IsWithin translation_bound t → AreWithin wide v → IsWithin wider (t +ℤ floor_div (dot r v) unit)
-world_on_within r v t small far near = moved_within t (floor_div (dot r v) unit) far (along_within r v small (all_wide v near))
-
-pub world_wide : (m : Pose) (v : Vec3) → HasPoseRange m → AreWithin wide v → AreWithin wider (world m v)
-world_wide m v r near = record { x = world_on_within (row_x m) v m.t.x r.x r.t.x near; y = world_on_within (row_y m) v m.t.y r.y r.t.y near; z = world_on_within (row_z m) v m.t.z r.z r.t.z near }
 
 -- the cross product of two rows has at most 62 bits
 pub product_within : (a b : ℤ) → IsWithin entry_bound a → IsWithin entry_bound b → IsWithin (pos 2305843009213693952) (a *ℤ b)

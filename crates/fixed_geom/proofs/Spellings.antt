@@ -14,8 +14,8 @@ use Rattle.fixed_geom.specs.declared.decimal.BadNumber.{BadNumber}
 use Rattle.fixed_geom.specs.declared.decimal.BadNumber.TheVariants as bad
 use Rattle.fixed_geom.specs.declared.spelling.Decimal.{Decimal}
 use Rattle.fixed_geom.specs.declared.spelling.Mantissa.{Mantissa}
-use Rattle.fixed_geom.specs.Decimal.{number_of, signed, sign_of, is_mark, parts_of, mantissa_with, mantissa_of, exponent_of, decimal_with, decimal_behind, decimal_of, nearest_of, value_in, value_of, IsNearest}
-use Rattle.fixed_geom.specs.Spelling.{Sign, unsigned, plus, minus, sign_bytes, is_minus, Exponent, Spelling, fraction_bytes, exponent_bytes, spelled, IsExponent, IsExponentPart, IsProper, exponent_value, decimal_spelled, IsAnswer}
+use Rattle.fixed_geom.specs.Decimal.{number_of, signed, sign_of, is_mark, parts_of, mantissa_with, mantissa_of, exponent_of, is_exponent, decimal_with, decimal_behind, decimal_of, nearest_of, value_in, value_of, IsNearest}
+use Rattle.fixed_geom.specs.Spelling.{Sign, unsigned, plus, minus, sign_bytes, is_minus, Exponent, Spelling, fraction_bytes, exponent_bytes, spelled, IsExponentPart, IsProper, exponent_value, decimal_spelled, IsAnswer}
 
 -- ---- the parts around a first mark
 
@@ -118,13 +118,15 @@ mantissa_read whole fraction h some few =
     let f : leb (length (whole ++ unwrap_or fraction [])) 24 ≡ true = le-leb _ 24 few in
     ap (λ (q : List ℕ × Option (List ℕ)). mantissa_with q.0 (unwrap_or q.1 [])) parts ∙ rw (e, f, h) refl
 
-exponent_read : (e : Exponent) → IsExponent e → exponent_of (Some (sign_bytes e.sign ++ e.digits)) ≡ Some (signed (is_minus e.sign) (number_of e.digits))
+exponent_read : (e : Exponent) → IsExponentPart (Some e) → exponent_of (Some (sign_bytes e.sign ++ e.digits)) ≡ Some (signed (is_minus e.sign) (number_of e.digits))
 unfolding exponent_of
 exponent_read e h =
-    let s = sign_read e.sign e.digits (digits_plain e.digits h.digits h.least) in
-    let a : leb 1 (length e.digits) ≡ true = le-leb 1 _ h.least in
-    let b : leb (length e.digits) 3 ≡ true = le-leb _ 3 h.most in
-    rw (s, a, b, h.digits, h.range) refl
+    let ds = e.digits in
+    let range = int_le (signed (is_minus e.sign) (number_of ds)) (pos 3) in
+    let p = and_parts (leb 1 (length ds)) (leb (length ds) 3 && (list_all is_ascii_digit ds && range)) h in
+    let q = and_parts (leb (length ds) 3) (list_all is_ascii_digit ds && range) p.1 in
+    let digits = (and_parts (list_all is_ascii_digit ds) range q.1).0 in
+    rw (sign_read e.sign ds (digits_plain ds digits (leb-true _ _ p.0)), h) refl
 
 mark_is : (capital : Bool) → is_mark 101 69 (cond capital 69 101) ≡ true
 mark_is true = refl
@@ -225,7 +227,7 @@ record ExponentSpelled (capital : Bool) (text : List ℕ) (e : ℤ) : Type 0 whe
   part : Exponent
   same : part.capital ≡ capital
   is : text ≡ sign_bytes part.sign ++ part.digits
-  proper : IsExponent part
+  proper : IsExponentPart (Some part)
   value : signed (is_minus part.sign) (number_of part.digits) ≡ e
 
 exponent_spelled : (capital : Bool) (text : List ℕ) (e : ℤ) → exponent_of (Some text) ≡ Some e → ExponentSpelled capital text e
@@ -234,14 +236,11 @@ exponent_spelled capital text e h =
     let s = signed_text text in
     let ds = (sign_of text).1 in
     let p = cond_some _ _ e h in
-    let q = and_parts (leb 1 (length ds)) (leb (length ds) 3 && (list_all is_ascii_digit ds && int_le (signed (sign_of text).0 (number_of ds)) (pos 3))) p.0 in
-    let r = and_parts (leb (length ds) 3) (list_all is_ascii_digit ds && int_le (signed (sign_of text).0 (number_of ds)) (pos 3)) q.1 in
-    let t = and_parts (list_all is_ascii_digit ds) (int_le (signed (sign_of text).0 (number_of ds)) (pos 3)) r.1 in
     record {
       part = record { capital = capital; sign = s.sign; digits = ds };
       same = refl;
       is = s.is;
-      proper = record { digits = t.0; least = leb-true _ _ q.0; most = leb-true _ _ r.0; range = ap (λ (n : Bool). int_le (signed n (number_of ds)) (pos 3)) s.negative ∙ t.1 };
+      proper = ap (λ (n : Bool). is_exponent n ds) s.negative ∙ p.0;
       value = ap (λ (n : Bool). signed n (number_of ds)) s.negative ∙ p.1;
     }
 

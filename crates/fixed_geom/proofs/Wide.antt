@@ -34,8 +34,8 @@ sum_size a b c h i j = record { low = omega (arith, ints); high = omega (arith, 
 pub narrow_fits : (r q : ℤ) → r ≡ q → IsWithin (pos 4398046511104) q → SFits w64 (to_z w128 (of_z w128 r))
 narrow_fits r q e w =
     let is : to_z w128 (of_z w128 r) ≡ r = omega (arith, ints) in
-    let wide : IsWithin (pos 4611686018427387904) q = record { low = omega (arith, ints); high = omega (arith, ints) } in
-    rw (is, e) (fits64 q wide)
+    let small : IsWithin (pos 4611686018427387904) q = record { low = omega (arith, ints); high = omega (arith, ints) } in
+    rw (is, e) (fits64 q small)
 
 pub narrow_is : (r q : ℤ) → r ≡ q → IsWithin (pos 4398046511104) q → to_z w64 (of_z w64 (to_z w128 (of_z w128 r))) ≡ q
 narrow_is r q e w =
@@ -69,14 +69,14 @@ minor_is r p q a b c d ab bb cb db e f g = plain r p q (a *ℤ b) (c *ℤ d) (pr
     plain r p q x y e f g v w = omega (arith, ints)
 
 -- the difference of a point and a translation, read as 64 bits
-pub way_is : (r p t : ℤ) → IsWithin (pos 1099511627776) p → IsWithin translation_bound t → r ≡ to_z w64 (of_z w64 p) -ℤ to_z w64 (of_z w64 t) → to_z w64 (of_z w64 r) ≡ p -ℤ t
-way_is r p t v w e = omega (arith, ints)
+pub offset_is : (r p t : ℤ) → IsWithin (pos 1099511627776) p → IsWithin translation_bound t → r ≡ to_z w64 (of_z w64 p) -ℤ to_z w64 (of_z w64 t) → to_z w64 (of_z w64 r) ≡ p -ℤ t
+offset_is r p t v w e = omega (arith, ints)
 
 -- a number within 2^72 stays itself in 128 bits
 pub cam_q30_axis_same : (z : ℤ) → IsWithin (pos 4722366482869645213696) z → to_z w128 (of_z w128 z) ≡ z
 cam_q30_axis_same z w = omega (arith, ints)
 
--- the coordinate of a camera point, by its form, read as 64 bits
+-- the coordinate of a camera point, by the scaled one, read as 64 bits
 pub cam_is : (r f : ℤ) (c t p : Vec3) → SFits w64 r → f ≡ cam_q30_axis c t p → IsWithin (pos 4722366482869645213696) (cam_q30_axis c t p) → r ≡ floor_div (to_z w128 (of_z w128 f)) unit → to_z w64 (of_z w64 r) ≡ cam_axis c t p
 cam_is r f c t p fit e w is = to_z-of_z w64 r fit ∙ is ∙ rw (e, cam_q30_axis_same (cam_q30_axis c t p) w) refl
 
@@ -84,8 +84,8 @@ cam_is r f c t p fit e w is = to_z-of_z w64 r fit ∙ is ∙ rw (e, cam_q30_axis
 pub world_is : (r t w d : ℤ) → IsWithin translation_bound t → IsWithin (pos 4397946511104) w → w ≡ d → r ≡ to_z w64 (of_z w64 t) +ℤ to_z w64 (of_z w64 w) → to_z w64 (of_z w64 r) ≡ t +ℤ d
 world_is r t w d u v e f = omega (arith, ints)
 
--- the form of a point on one axis, by the entries of a column, read as 128 bits
-pub cam_q30_axis_is : (r a b d : ℤ) (way t p : Vec3) → IsWithin entry_bound a → IsWithin entry_bound b → IsWithin entry_bound d → way ≡ minus p t
-    → r ≡ dot (vec (to_z w64 (of_z w64 a)) (to_z w64 (of_z w64 b)) (to_z w64 (of_z w64 d))) way → IsWithin (pos 4722366482869645213696) r
+-- a scaled camera coordinate, by the entries of a column, read as 128 bits
+pub cam_q30_axis_is : (r a b d : ℤ) (offset t p : Vec3) → IsWithin entry_bound a → IsWithin entry_bound b → IsWithin entry_bound d → offset ≡ minus p t
+    → r ≡ dot (vec (to_z w64 (of_z w64 a)) (to_z w64 (of_z w64 b)) (to_z w64 (of_z w64 d))) offset → IsWithin (pos 4722366482869645213696) r
     → to_z w128 (of_z w128 r) ≡ cam_q30_axis (vec a b d) t p
-cam_q30_axis_is r a b d way t p u v w e f n = cam_q30_axis_same r n ∙ f ∙ rw (entry_same a u, entry_same b v, entry_same d w, e) refl
+cam_q30_axis_is r a b d offset t p u v w e f n = cam_q30_axis_same r n ∙ f ∙ rw (entry_same a u, entry_same b v, entry_same d w, e) refl

@@ -1,4 +1,4 @@
--- Decimals: which texts they are, and the whole numbers that they give.
+-- Decimals: which texts are decimals, and their whole numbers.
 use Rattle.std.specs.Prelude.{ℕ, ◌+◌, ◌-◌, ◌*◌, ◌^◌, ◌==◌, suc, nat_lt, nat_le, ◌&&◌, ◌||◌, Bool, true, false, if◌then◌else◌, List, [], ◌∷◌, ◌++◌, length, ℤ, pos, negsuc, neg_ℤ, ◌+ℤ◌, ◌-ℤ◌, ◌*ℤ◌, int_le, unsigned_abs, Option, None, Some, Result, Ok, Err}
 use Rattle.std.specs.List.{fold, list_all, before_first, after_first, position_or_len}
 use Rattle.std.specs.Option.{option_map, option_and_then, unwrap_or}
@@ -11,7 +11,7 @@ use Rattle.fixed_geom.specs.declared.spelling.Mantissa.{Mantissa}
 
 -- ---- digits and signs
 
--- the digit of byte b behind the digits of n
+-- the digits of n and then the digit of byte b
 abbrev pub with_digit : ℕ → ℕ → ℕ
 with_digit n b = 10 * n + (b - 48)
 
@@ -19,7 +19,7 @@ with_digit n b = 10 * n + (b - 48)
 abbrev pub number_of : List ℕ → ℕ
 number_of digits = fold with_digit 0 digits
 
--- the number of the digits of n and those of the text behind them, if they are digits
+-- the number of the digits of n and those of the text after them, if they are digits
 abbrev pub digits_onto : ℕ → List ℕ → Option ℕ
 digits_onto n text = if list_all is_ascii_digit text then Some (fold with_digit n text) else None
 
@@ -27,7 +27,7 @@ digits_onto n text = if list_all is_ascii_digit text then Some (fold with_digit 
 abbrev pub signed : Bool → ℕ → ℤ
 signed negative n = if negative then neg_ℤ (pos n) else pos n
 
--- whether a minus stands first, and the bytes behind the sign where there is one
+-- whether a minus stands first, and the bytes after the sign where there is one
 abbrev pub sign_of : List ℕ → Bool × List ℕ
 sign_of [] = (false, [])
 sign_of (b ∷ rest) = if b == 45 then (true, rest) else if b == 43 then (false, rest) else (false, b ∷ rest)
@@ -38,14 +38,14 @@ sign_of (b ∷ rest) = if b == 45 then (true, rest) else if b == 43 then (false,
 abbrev pub is_mark : ℕ → ℕ → ℕ → Bool
 is_mark mark other b = b == mark || b == other
 
--- the bytes before the first of two marks, and those behind it where there is one
+-- the bytes before the first of two marks, and those after it where there is one
 abbrev pub parts_of : ℕ → ℕ → List ℕ → List ℕ × Option (List ℕ)
 parts_of mark other text =
     (before_first (is_mark mark other) text, if nat_lt (position_or_len (is_mark mark other) text) (length text) then Some (after_first (is_mark mark other) text) else None)
 
 -- ---- a mantissa: digits with at most one point, 1 to 24 digits
 
--- by the digits before the point and those behind it
+-- by the digits before the point and those after it
 abbrev pub mantissa_with : List ℕ → List ℕ → Option Mantissa
 mantissa_with whole fraction =
     if nat_le 1 (length (whole ++ fraction)) && (nat_le (length (whole ++ fraction)) 24 && list_all is_ascii_digit (whole ++ fraction))
@@ -58,14 +58,15 @@ mantissa_of text = mantissa_with (parts_of 46 46 text).0 (unwrap_or (parts_of 46
 
 -- ---- an exponent: a sign or none, and one to three digits, with a value of at most 3
 
+-- whether digits, with a minus or not, make an exponent
+abbrev pub is_exponent : Bool → List ℕ → Bool
+is_exponent negative digits = nat_le 1 (length digits) && (nat_le (length digits) 3 && (list_all is_ascii_digit digits && int_le (signed negative (number_of digits)) (pos 3)))
+
 -- by whether a minus stands first, and the digits
 abbrev pub exponent_with : Bool → List ℕ → Option ℤ
-exponent_with negative digits =
-    if nat_le 1 (length digits) && (nat_le (length digits) 3 && (list_all is_ascii_digit digits && int_le (signed negative (number_of digits)) (pos 3)))
-    then Some (signed negative (number_of digits))
-    else None
+exponent_with negative digits = if is_exponent negative digits then Some (signed negative (number_of digits)) else None
 
--- by what stands behind the mark of an exponent, where there is one
+-- by the text after the mark of an exponent, where there is one
 unfoldable pub exponent_of : Option (List ℕ) → Option ℤ
 exponent_of None = Some (pos 0)
 exponent_of (Some text) = exponent_with (sign_of text).0 (sign_of text).1
@@ -76,7 +77,7 @@ exponent_of (Some text) = exponent_with (sign_of text).0 (sign_of text).1
 abbrev pub decimal_with : Bool → ℤ → Mantissa → Decimal
 decimal_with negative exponent m = record { mantissa = signed negative m.number; power = exponent -ℤ pos m.places }
 
--- by whether a minus stands first, and the parts behind the sign
+-- by whether a minus stands first, and the parts after the sign
 abbrev pub decimal_behind : Bool → List ℕ × Option (List ℕ) → Option Decimal
 decimal_behind negative parts =
     option_and_then (λ e. option_map (decimal_with negative e) (mantissa_of parts.0)) (exponent_of parts.1)
@@ -101,7 +102,7 @@ tens_below (negsuc n) = 10 ^ (suc n)
 abbrev pub nearest_of : ℤ → ℤ → ℤ
 nearest_of a power = round_div (a *ℤ pos (tens_above power)) (pos (tens_below power))
 
--- a number that does not pass 10^18 either way
+-- a number that does not pass 10^18 in size
 abbrev pub number_within : ℤ → Result ℤ BadNumber
 number_within q = if nat_le (unsigned_abs q) (10 ^ 18) then Ok q else Err bad.Range
 
@@ -110,7 +111,7 @@ abbrev pub value_in : ℤ → Option Decimal → Result ℤ BadNumber
 value_in scale None = Err bad.Grammar
 value_in scale (Some d) = number_within (nearest_of (d.mantissa *ℤ scale) d.power)
 
--- what a text gives at a scale
+-- the whole number of a text at a scale
 unfoldable pub value_of : ℤ → List ℕ → Result ℤ BadNumber
 value_of scale text = value_in scale (decimal_of text)
 

@@ -8,7 +8,7 @@ use Rattle.fixed_geom.specs.declared.pose.BadPose.TheVariants.{Range, NotRotatio
 use Rattle.fixed_geom.specs.Vectors.{dot}
 use Rattle.fixed_geom.specs.Poses.{Pose, row_x, row_y, row_z, column_x, column_y, column_z, entry_bound, translation_bound, unit_squared, nearness, determinant}
 
--- the entry at a place of the nine
+-- the entry of an index, from 0 to 8
 abbrev pub entry : PoseRows → ℕ → ℤ
 entry p i = slice_index_or p.r i (pos 0)
 

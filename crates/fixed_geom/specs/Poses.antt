@@ -45,11 +45,11 @@ of_rows x y z t = record { r00 = x.x; r01 = x.y; r02 = x.z; r10 = y.x; r11 = y.y
 abbrev pub unit : ℤ
 unit = pos 1073741824
 
--- the form of a point on one axis: a column times the way from the translation
+-- a scaled camera coordinate of a world point, in units of 2^-30 micrometres, before the floor: a column times the offset from the translation
 abbrev pub cam_q30_axis : (column t p : Vec3) → ℤ
 cam_q30_axis c t p = dot c (minus p t)
 
--- a camera coordinate of a world point
+-- a camera coordinate of a world point. The suffix `_axis` is for one coordinate of three
 abbrev pub cam_axis : (column t p : Vec3) → ℤ
 cam_axis c t p = floor_div (cam_q30_axis c t p) unit
 
@@ -80,7 +80,7 @@ pub record HasPoseRange (m : Pose) : Type 0 where
 abbrev pub unit_squared : ℤ
 unit_squared = pos 1152921504606846976
 
--- how far a sum of products may be from its target: 2^48
+-- by how much a sum of products may differ from its target: 2^48
 abbrev pub nearness : ℤ
 nearness = pos 281474976710656
 

@@ -1,12 +1,12 @@
 -- How decimals are spelled.
-use Rattle.std.specs.Prelude.{◌≡◌, ℕ, ◌≤◌, ◌<◌, ◌^◌, Bool, true, false, if◌then◌else◌, List, [], ◌∷◌, ◌++◌, length, ℤ, pos, ◌-ℤ◌, ◌*ℤ◌, int_le, unsigned_abs, Option, None, Some, Result, Ok, Err}
+use Rattle.std.specs.Prelude.{◌≡◌, ℕ, ◌≤◌, ◌<◌, ◌^◌, Bool, true, false, if◌then◌else◌, List, [], ◌∷◌, ◌++◌, length, ℤ, pos, ◌-ℤ◌, ◌*ℤ◌, unsigned_abs, Option, None, Some, Result, Ok, Err}
 use Rattle.std.specs.List.{list_all}
 use Rattle.std.specs.Option.{unwrap_or}
 use Rattle.std.specs.Char.{is_ascii_digit}
 use Rattle.fixed_geom.specs.declared.spelling.Decimal.{Decimal}
 use Rattle.fixed_geom.specs.declared.decimal.BadNumber.{BadNumber}
 use Rattle.fixed_geom.specs.declared.decimal.BadNumber.TheVariants as bad
-use Rattle.fixed_geom.specs.Decimal.{number_of, signed, IsNearest}
+use Rattle.fixed_geom.specs.Decimal.{number_of, signed, is_exponent, IsNearest}
 
 -- a sign, or none
 pub data Sign : Type 0 where
@@ -32,14 +32,14 @@ pub record Exponent : Type 0 where
   pub sign : Sign
   pub digits : List ℕ
 
--- a sign, the digits before the point, those behind it where there is a point, and an exponent where there is one
+-- a sign, the digits before the point, those after it where there is a point, and an exponent where there is one
 pub record Spelling : Type 0 where
   pub sign : Sign
   pub whole : List ℕ
   pub fraction : Option (List ℕ)
   pub exponent : Option Exponent
 
--- the point and the digits behind it, where there is one
+-- the point and the digits after it, where there is one
 abbrev pub fraction_bytes : Option (List ℕ) → List ℕ
 fraction_bytes None = []
 fraction_bytes (Some digits) = 46 ∷ digits
@@ -53,21 +53,14 @@ exponent_bytes (Some e) = (if e.capital then 69 else 101) ∷ (sign_bytes e.sign
 abbrev pub spelled : Spelling → List ℕ
 spelled s = sign_bytes s.sign ++ ((s.whole ++ fraction_bytes s.fraction) ++ exponent_bytes s.exponent)
 
--- the digits before the point and behind it
+-- the digits before the point and after it
 abbrev pub digits_of : Spelling → List ℕ
 digits_of s = s.whole ++ unwrap_or s.fraction []
 
--- one to three digits, and at most 3
-pub record IsExponent (e : Exponent) : Type 0 where
-  pub digits : list_all is_ascii_digit e.digits ≡ true
-  pub least : 1 ≤ length e.digits
-  pub most : length e.digits ≤ 3
-  pub range : int_le (signed (is_minus e.sign) (number_of e.digits)) (pos 3) ≡ true
-
--- an exponent, or none
+-- an exponent of one to three digits and at most 3, or none
 abbrev pub IsExponentPart : Option Exponent → Type 0
 IsExponentPart None = Unit {0}
-IsExponentPart (Some e) = IsExponent e
+IsExponentPart (Some e) = is_exponent (is_minus e.sign) e.digits ≡ true
 
 -- 1 to 24 digits, and an exponent of one to three digits and at most 3, or none
 pub record IsProper (s : Spelling) : Type 0 where
@@ -85,7 +78,7 @@ exponent_value (Some e) = signed (is_minus e.sign) (number_of e.digits)
 abbrev pub decimal_spelled : Spelling → Decimal
 decimal_spelled s = record { mantissa = signed (is_minus s.sign) (number_of (digits_of s)); power = exponent_value s.exponent -ℤ pos (length (unwrap_or s.fraction [])) }
 
--- ---- what a text gives at a scale
+-- ---- the whole number of a text at a scale
 
 -- the text is spelled properly, and P holds of the whole number nearest to what is spelled, times the scale
 pub record Gives (text : List ℕ) (scale : ℤ) (P : ℤ → Type 0) : Type 0 where
@@ -96,7 +89,7 @@ pub record Gives (text : List ℕ) (scale : ℤ) (P : ℤ → Type 0) : Type 0 w
   pub nearest : IsNearest ((decimal_spelled spelling).mantissa *ℤ scale) (decimal_spelled spelling).power number
   pub holds : P number
 
--- no proper spelling is the text; the number passes 10^18 either way; or it is the answer
+-- no proper spelling is the text; the number passes 10^18 in size; or it is the answer
 abbrev pub IsAnswer : List ℕ → ℤ → Result ℤ BadNumber → Type 0
 IsAnswer text scale (Err bad.Grammar) = (s : Spelling) → IsProper s → spelled s ≡ text → ⊥
 IsAnswer text scale (Err bad.Range) = Gives text scale (λ q. 10 ^ 18 < unsigned_abs q)

@@ -1,4 +1,4 @@
--- Points and ways in whole micrometres: bounds, differences and products.
+-- Points and offsets in whole micrometres: bounds, differences and products.
 use Rattle.std.specs.Prelude.{ℤ, neg_ℤ, ◌+ℤ◌, ◌-ℤ◌, ◌*ℤ◌, ◌≤ℤ◌}
 use Rattle.fixed_geom.specs.declared.vector.Vec3.{Vec3}
 
@@ -6,7 +6,7 @@ use Rattle.fixed_geom.specs.declared.vector.Vec3.{Vec3}
 abbrev pub vec : ℤ → ℤ → ℤ → Vec3
 vec x y z = record { x = x; y = y; z = z }
 
--- z is at most n either way
+-- z is at most n in size
 pub record IsWithin (n z : ℤ) : Type 0 where
   pub low : (neg_ℤ n) ≤ℤ z
   pub high : z ≤ℤ n
@@ -17,7 +17,7 @@ pub record AreWithin (n : ℤ) (v : Vec3) : Type 0 where
   pub y : IsWithin n v.y
   pub z : IsWithin n v.z
 
--- the way from q to p
+-- the offset of p from q
 abbrev pub minus : Vec3 → Vec3 → Vec3
 minus p q = vec (p.x -ℤ q.x) (p.y -ℤ q.y) (p.z -ℤ q.z)
 

@@ -4,10 +4,10 @@ ghost use Rattle.fixed_geom.specs.Vectors.{IsWithin};
 
 use crate::vector::Vec3;
 
-/// `2^48`: how far a sum of products may be from its target.
+/// `2^48`: by how much a sum of products may differ from its target.
 const NEARNESS: i128 = 1 << 48;
 
-/// Whether `z` is at most `bound` either way.
+/// Whether `z` is at most `bound` in size.
 fn is_within(bound: i64, z: i64) -> bool
     requires { IsWithin (pos (2 ^ 62)) bound }
     ensures { result ≡ is_within_of bound z }
@@ -29,6 +29,6 @@ pub(crate) fn is_near(target: i128, z: i128) -> bool
     requires z { IsWithin (pos (2 ^ 95)) z }
     ensures { result ≡ is_near_of target z }
 {
-    let off = z - target;
-    -NEARNESS <= off && off <= NEARNESS
+    let difference = z - target;
+    -NEARNESS <= difference && difference <= NEARNESS
 }

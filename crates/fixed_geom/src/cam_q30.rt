@@ -1,5 +1,5 @@
-/// A world point's ways along the camera's three axes, in units of `2^-30` micrometres: its camera
-/// coordinates before the floor.
+/// The scaled camera coordinates of a world point: its offsets along the camera's three axes, in units
+/// of `2^-30` micrometres, before the floor.
 #[derive(Clone, Copy, Debug, PartialEq, Eq)]
 pub struct CamQ30 {
     pub x: i128,

@@ -5,21 +5,34 @@ ghost use Rattle.fixed_geom.specs.Spelling.{IsAnswer};
 
 use crate::division::round_div;
 use crate::spelling::parse;
+use std::error::Error;
+use std::fmt;
 
 /// Why a text gives no number.
 #[derive(Clone, Copy, Debug, PartialEq, Eq)]
 pub enum BadNumber {
     /// The text is no decimal.
     Grammar,
-    /// The text is a decimal, and the whole number nearest to it passes `10^18` either way.
+    /// The text is a decimal, and the whole number nearest to it, times the scale, passes `10^18` in size.
     Range,
 }
+
+impl fmt::Display for BadNumber {
+    fn fmt<W: fmt::Write>(&self, f: &mut fmt::Formatter<W>) -> fmt::Result {
+        match self {
+            BadNumber::Grammar => write!(f, "the text is no decimal"),
+            BadNumber::Range => write!(f, "the decimal is too large"),
+        }
+    }
+}
+
+impl Error for BadNumber {}
 
 /// The whole number nearest to the value of a decimal times the scale, the greater one where two
 /// are equally near. The scale is from 1 to `2^30`.
 ///
 /// A decimal is an optional `+` or `-`; 1 to 24 digits, with at most one point before, between or
-/// behind them; and optionally `e` or `E`, an optional `+` or `-` and one to three digits, the
+/// after them; and optionally `e` or `E`, an optional `+` or `-` and one to three digits, the
 /// exponent, which is at most 3.
 pub fn read_decimal(text: &[u8], scale: i64) -> Result<i64, BadNumber>
     requires least { pos 1 ≤ℤ scale }
@@ -33,7 +46,7 @@ pub fn read_decimal(text: &[u8], scale: i64) -> Result<i64, BadNumber>
     }
 }
 
-/// The number, unless it passes `10^18` either way.
+/// The number, unless it passes `10^18` in size.
 fn within_range(number: i128) -> Result<i64, BadNumber>
     ensures { result ≡ number_within number }
 {

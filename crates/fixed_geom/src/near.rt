@@ -16,7 +16,7 @@ pub(crate) fn world_axis(t: i64, row: Vec3, c: Vec3) -> i64
     t + units(dot(row, c))
 }
 
-/// How many whole units of `2^30` a number has.
+/// The floor of a number by `2^30`.
 fn units(a: i64) -> i64
     requires { IsWithin (pos (2 ^ 60)) a }
     ensures value { result ≡ floor_div a unit }

@@ -8,9 +8,12 @@ use crate::bounds::are_within;
 use crate::cam_q30::CamQ30;
 use crate::near::world_axis;
 use crate::products::{
-    along, are_nearly_orthogonal, is_nearly_unit, is_right_handed, moved, reach, way, whole,
+    along, along_q30, are_nearly_orthogonal, is_nearly_unit, is_right_handed, micrometres, moved,
+    offset_from,
 };
 use crate::vector::Vec3;
+use std::error::Error;
+use std::fmt;
 use std::marker::Model;
 
 /// The largest size of an entry: `2^30 + 2^17`.
@@ -29,12 +32,26 @@ pub struct PoseRows {
 /// Why rows are no pose.
 #[derive(Clone, Copy, Debug, PartialEq, Eq)]
 pub enum BadPose {
-    /// An entry passes `2^30 + 2^17`, or a coordinate of the translation 100 metres, either way.
+    /// An entry passes `2^30 + 2^17`, or a coordinate of the translation 100 metres, in size.
     Range,
     /// The bounds hold, and the entries are no rotation: the transposed matrix times the matrix
     /// differs from `2^60` times the identity by more than `2^48`, or the determinant is not positive.
     NotRotation,
 }
+
+impl fmt::Display for BadPose {
+    fn fmt<W: fmt::Write>(&self, f: &mut fmt::Formatter<W>) -> fmt::Result {
+        match self {
+            BadPose::Range => write!(
+                f,
+                "an entry or a coordinate of the translation is out of its range"
+            ),
+            BadPose::NotRotation => write!(f, "the entries are no rotation"),
+        }
+    }
+}
+
+impl Error for BadPose {}
 
 /// A pose that passed the pose test. It takes camera points to world points.
 #[derive(Clone, Copy, Debug, PartialEq, Eq)]
@@ -89,8 +106,8 @@ impl Pose {
         }
     }
 
-    /// The forms of a world point within `2^40` micrometres on each axis: the transposed matrix times
-    /// the way from the translation.
+    /// The scaled camera coordinates of a world point within `2^40` micrometres on each axis: the
+    /// transposed matrix times the offset from the translation.
     pub fn cam_q30(&self, p: Vec3) -> CamQ30
         requires p { AreWithin (pos (2 ^ 40)) p }
         ensures x { result.x ≡ cam_q30_axis (column_x self.now) self.now.t p }
@@ -99,37 +116,37 @@ impl Pose {
         ensures pose { IsPose self.now }
     {
         let (x, y, z) = (self.x, self.y, self.z);
-        let way = way(p, self.t);
+        let offset = offset_from(p, self.t);
         CamQ30 {
-            x: reach(
+            x: along_q30(
                 Vec3 {
                     x: x.x,
                     y: y.x,
                     z: z.x,
                 },
-                way,
+                offset,
             ),
-            y: reach(
+            y: along_q30(
                 Vec3 {
                     x: x.y,
                     y: y.y,
                     z: z.y,
                 },
-                way,
+                offset,
             ),
-            z: reach(
+            z: along_q30(
                 Vec3 {
                     x: x.z,
                     y: y.z,
                     z: z.z,
                 },
-                way,
+                offset,
             ),
         }
     }
 
-    /// The camera point of a world point within `2^40` micrometres on each axis: its forms, each by
-    /// floor.
+    /// The camera point of a world point within `2^40` micrometres on each axis: its scaled camera
+    /// coordinates, each by floor.
     pub fn cam(&self, p: Vec3) -> Vec3
         requires p { AreWithin (pos (2 ^ 40)) p }
         ensures value { result ≡ cam_of self.now p }
@@ -138,9 +155,9 @@ impl Pose {
     {
         let cam_q30 = self.cam_q30(p);
         Vec3 {
-            x: whole(cam_q30.x),
-            y: whole(cam_q30.y),
-            z: whole(cam_q30.z),
+            x: micrometres(cam_q30.x),
+            y: micrometres(cam_q30.y),
+            z: micrometres(cam_q30.z),
         }
     }
 
@@ -175,7 +192,7 @@ impl Pose {
     }
 }
 
-/// The row whose first entry is at the place `at`.
+/// The row whose first entry has the index `at`.
 fn row(rows: &PoseRows, at: usize) -> Vec3
     requires { at ≤ 6 }
     ensures { result ≡ vec (entry rows.now at) (entry rows.now (at + 1)) (entry rows.now (at + 2)) }

@@ -98,8 +98,8 @@ pub(crate) fn is_right_handed(x: Vec3, y: Vec3, z: Vec3) -> bool
     0 < dot(x, cross(y, z))
 }
 
-/// The way from the translation `t` to a point.
-pub(crate) fn way(p: Vec3, t: Vec3) -> Vec3
+/// The offset of a point from the translation `t`.
+pub(crate) fn offset_from(p: Vec3, t: Vec3) -> Vec3
     requires p { AreWithin (pos (2 ^ 40)) p }
     requires t { AreWithin translation_bound t }
     ensures value { result ≡ minus_of p t }
@@ -113,42 +113,42 @@ pub(crate) fn way(p: Vec3, t: Vec3) -> Vec3
     }
 }
 
-/// How far a way goes along a row or a column of a rotation, in whole micrometres.
-pub(crate) fn along(line: Vec3, way: Vec3) -> i64
+/// How far an offset goes along a row or a column of a rotation, in whole micrometres.
+pub(crate) fn along(line: Vec3, offset: Vec3) -> i64
     requires line { AreWithin entry_bound line }
-    requires way { AreWithin (pos 1099611627776) way }
-    ensures value { result ≡ floor_div (dot_of line way) unit }
+    requires offset { AreWithin (pos 1099611627776) offset }
+    ensures value { result ≡ floor_div (dot_of line offset) unit }
     // 2^42 less 10^8
     ensures bound { IsWithin (pos 4397946511104) result }
 {
-    whole(reach(line, way))
+    micrometres(along_q30(line, offset))
 }
 
-/// How far a way goes along a row or a column of a rotation, in units of `2^-30` micrometres.
-pub(crate) fn reach(line: Vec3, way: Vec3) -> i128
+/// How far an offset goes along a row or a column of a rotation, in units of `2^-30` micrometres.
+pub(crate) fn along_q30(line: Vec3, offset: Vec3) -> i128
     requires line { AreWithin entry_bound line }
-    requires way { AreWithin (pos 1099611627776) way }
-    ensures value { result ≡ dot_of line way }
+    requires offset { AreWithin (pos 1099611627776) offset }
+    ensures value { result ≡ dot_of line offset }
     ensures bound { IsWithin (pos (2 ^ 72)) result }
 {
-    dot(line, way)
+    dot(line, offset)
 }
 
-/// How many whole micrometres a reach has.
-pub(crate) fn whole(reach: i128) -> i64
-    requires { IsWithin (pos (2 ^ 72)) reach }
-    ensures value { result ≡ floor_div reach unit }
+/// The floor, in whole micrometres, of a length in units of `2^-30` micrometres.
+pub(crate) fn micrometres(q30: i128) -> i64
+    requires { IsWithin (pos (2 ^ 72)) q30 }
+    ensures value { result ≡ floor_div q30 unit }
     ensures bound { IsWithin (pos (2 ^ 42)) result }
 {
-    reach.div_euclid(1 << 30) as i64
+    q30.div_euclid(1 << 30) as i64
 }
 
 /// A coordinate of a point, from the translation's.
-pub(crate) fn moved(t: i64, way: i64) -> i64
+pub(crate) fn moved(t: i64, offset: i64) -> i64
     requires t { IsWithin translation_bound t }
-    requires way { IsWithin (pos 4397946511104) way }
-    ensures value { result ≡ t +ℤ way }
+    requires offset { IsWithin (pos 4397946511104) offset }
+    ensures value { result ≡ t +ℤ offset }
     ensures bound { IsWithin (pos (2 ^ 42)) result }
 {
-    t + way
+    t + offset
 }

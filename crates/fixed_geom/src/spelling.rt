@@ -9,7 +9,7 @@ pub struct Decimal {
     pub power: i32,
 }
 
-/// The digits of a mantissa as one number, and how many of them stand behind the point.
+/// The digits of a mantissa as one number, and how many of them follow the point.
 #[derive(Clone, Copy, Debug, PartialEq, Eq)]
 pub struct Mantissa {
     pub number: u128,
@@ -22,7 +22,7 @@ const MOST_EXPONENT_DIGITS: usize = 3;
 
 const GREATEST_EXPONENT: i32 = 3;
 
-/// The parts of a decimal, nothing where the text is none.
+/// The mantissa and the power of a decimal. `None` where the text is no decimal.
 #[tactic(auto, unfolding(crate::specs::Decimal::decimal_of))]
 pub(crate) fn parse(text: &[u8]) -> Option<Decimal>
     ensures value { result ≡ decimal_of text.now }
@@ -49,7 +49,7 @@ fn with_sign(negative: bool, number: u128) -> i128
     if negative { -positive } else { positive }
 }
 
-/// Whether a minus stands first, and the bytes behind the sign where there is one.
+/// Whether a minus stands first, and the bytes after the sign where there is one.
 fn split_sign(text: &[u8]) -> (bool, &[u8])
     ensures { (result.0, result.1.now) ≡ sign_of text.now }
 {
@@ -60,7 +60,7 @@ fn split_sign(text: &[u8]) -> (bool, &[u8])
     }
 }
 
-/// The bytes before the first of two marks, and those behind it where there is one.
+/// The bytes before the first of two marks, and those after it where there is one.
 fn split_at_first(text: &[u8], mark: u8, other: u8) -> (&[u8], Option<&[u8]>)
     ensures { (result.0.now, option_copied result.1) ≡ parts_of mark other text.now }
 {
@@ -79,7 +79,7 @@ fn is_mark(byte: u8, mark: u8, other: u8) -> bool
     byte == mark || byte == other
 }
 
-/// The exponent by what stands behind its mark, 0 where there is no mark.
+/// The exponent by the text after its mark, 0 where there is no mark.
 #[tactic(auto, unfolding(crate::specs::Decimal::exponent_of))]
 fn read_exponent(text: Option<&[u8]>) -> Option<i32>
     ensures value { result ≡ exponent_of (option_copied text.entry) }
@@ -112,7 +112,7 @@ fn exponent_from(negative: bool, digits: &[u8]) -> Option<i32>
     Some(exponent)
 }
 
-/// The digits before and behind at most one point.
+/// The digits before and after at most one point.
 #[tactic(auto, unfolding(crate::specs::Decimal::mantissa_of))]
 fn read_mantissa(text: &[u8]) -> Option<Mantissa>
     ensures value { result ≡ mantissa_of text.now }
@@ -133,7 +133,7 @@ fn read_mantissa(text: &[u8]) -> Option<Mantissa>
     })
 }
 
-/// The number of so many digits and then those of the text, nothing where a byte is no digit.
+/// The number of the `count` digits of `start` and then those of the text. `None` where a byte is no digit.
 fn digits_onto(start: u128, count: usize, text: &[u8]) -> Option<u128>
     requires start { start < 10 ^ count }
     requires count { count + length text.now ≤ 24 }

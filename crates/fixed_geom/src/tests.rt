@@ -1,4 +1,5 @@
 use super::*;
+use std::test::Fail;
 
 const ONE: i64 = 1 << 30;
 
@@ -26,20 +27,55 @@ fn poses_are_judged(rt: HostRuntime) {
     let stretched = [1074815566, 0, 0, 0, ONE, 0, 0, 0, ONE];
     let least = [i64::MIN, 0, 0, 0, ONE, 0, 0, 0, ONE];
     let bent = [ONE, 1 << 20, 0, 0, ONE, 0, 0, 0, ONE];
-    for (r, t, want) in [
-        (TURN, ORIGIN, None),
-        (mirror, ORIGIN, Some(BadPose::NotRotation)),
-        (bent, ORIGIN, Some(BadPose::NotRotation)),
-        (stretched, ORIGIN, Some(BadPose::Range)),
-        (least, ORIGIN, Some(BadPose::Range)),
-        (IDENTITY, along_x(1_000_000_000), Some(BadPose::Range)),
-        (IDENTITY, along_x(i64::MIN), Some(BadPose::Range)),
-        (mirror, along_x(1_000_000_000), Some(BadPose::Range)),
-        (IDENTITY, along_x(100_000_000), None),
-        (IDENTITY, along_x(-100_000_000), None),
-        (IDENTITY, along_x(100_000_001), Some(BadPose::Range)),
+    for (name, r, t, want) in [
+        ("a small turn", TURN, ORIGIN, None),
+        ("a mirror", mirror, ORIGIN, Some(BadPose::NotRotation)),
+        ("bent columns", bent, ORIGIN, Some(BadPose::NotRotation)),
+        (
+            "stretched past the bound",
+            stretched,
+            ORIGIN,
+            Some(BadPose::Range),
+        ),
+        ("least number as entry", least, ORIGIN, Some(BadPose::Range)),
+        (
+            "translation of 1 kilometre",
+            IDENTITY,
+            along_x(1_000_000_000),
+            Some(BadPose::Range),
+        ),
+        (
+            "least number as translation",
+            IDENTITY,
+            along_x(i64::MIN),
+            Some(BadPose::Range),
+        ),
+        (
+            "a mirror out of range",
+            mirror,
+            along_x(1_000_000_000),
+            Some(BadPose::Range),
+        ),
+        (
+            "translation at its bound",
+            IDENTITY,
+            along_x(100_000_000),
+            None,
+        ),
+        (
+            "translation at its lower bound",
+            IDENTITY,
+            along_x(-100_000_000),
+            None,
+        ),
+        (
+            "translation past its bound",
+            IDENTITY,
+            along_x(100_000_001),
+            Some(BadPose::Range),
+        ),
     ] {
-        assert_eq!(rt; refusal(r, t), want, "at {:?} {:?}", r, t);
+        assert_eq!(rt; refusal(r, t), want, "{name}");
     }
 }
 
@@ -55,6 +91,9 @@ fn points_go_to_the_camera_and_back(rt: HostRuntime) -> Result<(), BadPose> {
     };
     let pose = Pose::accept(&half_turn)?;
     is_shared(&pose);
+    is_shared(&half_turn);
+    is_shared(&half_turn.t);
+    is_shared(&pose.cam_q30(half_turn.t));
     assert_eq!(rt; pose.rows(), half_turn);
     assert_eq!(rt;
         pose.cam(Vec3 {
@@ -98,7 +137,7 @@ fn near_points_and_cam_q30(rt: HostRuntime) -> Result<(), BadPose> {
     };
     let pose = Pose::accept(&PoseRows { r: IDENTITY, t })?;
     assert_eq!(rt; pose.near_world(point), moved);
-    // The way from the translation is (1, 2, 3).
+    // The offset from the translation is (1, 2, 3).
     let cam_q30 = CamQ30 {
         x: 1 << 30,
         y: 2 << 30,
@@ -134,24 +173,51 @@ fn quotients_are_floors(rt: HostRuntime) {
     assert_eq!(rt; round_div(-5, 10), 0);
     assert_eq!(rt; round_div(-6, 10), -1);
     assert_eq!(rt; round_div(-most, most), -1);
+    for (name, estimate) in [("right", -4), ("too low", -5), ("too high", -3)] {
+        assert_eq!(rt; floor_div_from(estimate, -7, 2), -4, "{name}");
+    }
 }
 
 #[test]
 fn decimals_are_read(rt: HostRuntime) {
     let micro = 1_000_000;
-    for (text, scale, want) in [
-        ("0.0000005", micro, Ok(1)),
-        ("-0.0000005", micro, Ok(0)),
-        (".5", micro, Ok(500_000)),
-        ("5.", micro, Ok(5_000_000)),
-        ("1e-40", micro, Ok(0)),
-        ("1.0000000000000000000e+00", 1 << 30, Ok(1_073_741_824)),
-        ("-", micro, Err(BadNumber::Grammar)),
-        ("nan", micro, Err(BadNumber::Grammar)),
-        ("1e4", micro, Err(BadNumber::Grammar)),
-        ("", micro, Err(BadNumber::Grammar)),
-        ("999999999999999", micro, Err(BadNumber::Range)),
+    for (name, text, scale, want) in [
+        ("half a micrometre up", "0.0000005", micro, Ok(1)),
+        ("minus half goes up to 0", "-0.0000005", micro, Ok(0)),
+        ("no digit before the point", ".5", micro, Ok(500_000)),
+        ("no digit after the point", "5.", micro, Ok(5_000_000)),
+        ("a small power", "1e-40", micro, Ok(0)),
+        (
+            "an exponent with a sign",
+            "1.0000000000000000000e+00",
+            1 << 30,
+            Ok(1_073_741_824),
+        ),
+        ("a sign alone", "-", micro, Err(BadNumber::Grammar)),
+        ("a word", "nan", micro, Err(BadNumber::Grammar)),
+        ("exponent past 3", "1e4", micro, Err(BadNumber::Grammar)),
+        ("no byte", "", micro, Err(BadNumber::Grammar)),
+        (
+            "past 10^18",
+            "999999999999999",
+            micro,
+            Err(BadNumber::Range),
+        ),
     ] {
-        assert_eq!(rt; read_decimal(text.as_bytes(), scale), want, "at {:?}", text);
+        assert_eq!(rt; read_decimal(text.as_bytes(), scale), want, "{name}");
     }
+}
+
+#[test]
+fn refusals_have_words(rt: HostRuntime) -> Result<(), Fail> {
+    let alloc = rt.alloc();
+    assert_eq!(rt;
+        BadPose::NotRotation.to_string(alloc)?.as_str(),
+        "the entries are no rotation"
+    );
+    assert_eq!(rt;
+        BadNumber::Grammar.to_string(alloc)?.as_str(),
+        "the text is no decimal"
+    );
+    Ok(())
 }

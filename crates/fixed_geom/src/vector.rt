@@ -1,4 +1,4 @@
-/// A point or a way, in whole micrometres.
+/// A point or an offset, in whole micrometres.
 #[derive(Clone, Copy, Debug, PartialEq, Eq)]
 pub struct Vec3 {
     pub x: i64,

@@ -1,5 +1,5 @@
 use Rattle.camera.proofs.SphereLemmas.{offset_is, offset_within}
-use Rattle.camera.proofs.sphere.way_from_centre.Goals as goal
+use Rattle.camera.proofs.sphere.offset_from_centre.Goals as goal
 
 pub returns-clause-value : goal.returns-clause-value
 returns-clause-value c = offset_is c.args.camera.now c.args.depth c.requires.camera c.requires.depth
