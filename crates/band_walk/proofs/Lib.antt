@@ -1,5 +1,4 @@
 mod BandSet
-mod FloorLemmas
 mod Keys
 mod Machine
 mod SampleLemmas

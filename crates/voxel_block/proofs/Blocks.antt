@@ -1,8 +1,10 @@
 -- What a loop over the voxels of a block needs.
 use Rattle.std.proofs.Common.{◌≡◌, ℕ, zero, suc, ◌+◌, ◌*◌, ◌/◌, ◌%◌, ◌<◌, List, [], ◌∷◌, ◌++◌, length, set, take, drop, map, refl, ap, sym, subst, ◌∙◌, arith}
-use Rattle.std.specs.Prelude.{Some, None, slice_get}
+use Rattle.std.specs.Prelude.{Some, None, All, slice_get}
 use Rattle.std.specs.List.{enumerate_from}
 use Rattle.std.proofs.lemmas.List.{length-replicate, length-set}
+use Rattle.std.proofs.lemmas.List.Elements.{All-map}
+use Rattle.std.proofs.lemmas.List.FromFn.{length-enumerate_from, get_or-enumerate_from}
 use Rattle.voxel_block.specs.Voxels.{new_voxel}
 use Rattle.voxel_block.specs.Blocks.{new_block, by_index, Offset, index_of, offset_of}
 
@@ -55,6 +57,13 @@ module _ {X : Type 0} (f : ℕ → X → X) where
   -- a rule that leaves each element of a list leaves the list
   pub by_index-unchanged : (xs : List X) → ((i : ℕ) (x : X) → slice_get xs i ≡ Some x → f i x ≡ x) → by_index f xs ≡ xs
   by_index-unchanged xs h = by_index-same f (λ _ x. x) xs h ∙ unchanged_from 0 xs
+
+  -- what the rule keeps true of each element
+  pub All-by_index : (P : X → Type 0) → ((i : ℕ) (x : X) → P x → P (f i x)) → (xs : List X) → All P xs → All P (by_index f xs)
+  All-by_index P keeps xs all = All-map P (λ p. f p.0 p.1) (enumerate_from 0 xs) (λ k d below.
+      let within : k < length xs = omega (arith, length-enumerate_from 0 xs) in
+      let Q : ℕ × X → Type 0 = λ p. P (f p.0 p.1) in
+      subst Q (sym (get_or-enumerate_from 0 xs k d within)) (keeps (0 + k) _ (all k d.1 within)))
 
 -- ---- a loop that changes each element by its index
 
