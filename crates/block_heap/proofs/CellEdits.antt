@@ -2,13 +2,13 @@
 use Rattle.std.proofs.Common.{◌≡◌, ◌≢◌, ℕ, ◌+◌, ◌-◌, ◌<◌, true, false, List, [], ◌∷◌, ◌++◌, length, set, get_or, refl, ap, sym, subst, ◌∙◌, arith}
 use Rattle.std.specs.Prelude.{Option, Some, None, not, is_some, slice_get, option_and_then, option_map}
 use Rattle.std.specs.List.{SwappedAt}
-use Rattle.std.proofs.lemmas.Option.{get_or_from_slice_get, slice_get_within}
+use Rattle.std.proofs.lemmas.Option.{get_or_from_slice_get}
 use Rattle.std.proofs.lemmas.List.{ext_get_or, set-get_or, get_or-set_same, get_or-set_other, get_or_push, get_or_append_left, length-set}
 use Rattle.voxel_block.specs.declared.key.BlockKey.{BlockKey}
 use Rattle.voxel_block.specs.declared.voxel.Voxel.{Voxel}
 use Rattle.block_heap.specs.declared.cell.Cell.{Cell}
 use Rattle.block_heap.specs.declared.cell.Cell.TheVariants.{Free, Owned}
-use Rattle.block_heap.specs.Cells.{Cells, IsFreeList, content, freed, given_up, given_up_with, has_free, is_free}
+use Rattle.block_heap.specs.Cells.{Cells, content, freed, given_up, given_up_with, is_free}
 use Rattle.block_heap.specs.HeapLending.{with_block_at, with_block_in}
 use Rattle.block_heap.specs.Lending.{with_block}
 use Rattle.block_heap.proofs.FreeLists.{by_number}

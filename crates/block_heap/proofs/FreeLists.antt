@@ -1,6 +1,5 @@
 -- Lists of the numbers of the free cells.
 use Rattle.std.proofs.Common.{◌≡◌, ◌≢◌, ℕ, zero, suc, ◌+◌, ◌-◌, ◌<◌, ◌≤◌, Bool, true, false, not, cond, nat_eq, nat_lt, List, [], ◌∷◌, ◌++◌, length, set, get_or, refl, ap, sym, subst, ◌∙◌, append_assoc, length-append, arith}
-use Rattle.std.specs.List.{AllByRecursion, Contains, IsDistinct}
 use Rattle.std.specs.Prelude.{pos, Some, replicate, slice_get, count_by}
 use Rattle.std.proofs.lemmas.List.{append-nil, get_or_push, length-set}
 use Rattle.std.proofs.lemmas.Option.{slice_get_read}

@@ -1,5 +1,5 @@
 -- A table has no more linked nodes than keys.
-use Rattle.std.proofs.Common.{◌≡◌, ℕ, zero, suc, ◌+◌, ◌-◌, ◌*◌, ◌<◌, ◌≤◌, List, [], ◌∷◌, length, refl, ap, ◌∙◌, arith, inl, inr, subst, cond, false}
+use Rattle.std.proofs.Common.{◌≡◌, ℕ, zero, suc, ◌+◌, ◌-◌, ◌*◌, ◌<◌, ◌≤◌, List, [], ◌∷◌, length, refl, ap, ◌∙◌, arith, inl, inr, subst, false}
 use Rattle.voxel_block.specs.declared.key.BlockKey.{BlockKey}
 use Rattle.std.proofs.lemmas.Bool.{cases_lt, false≢true}
 use Rattle.spatial_hash.specs.Table.{Table, entries_in, key_word}
@@ -7,7 +7,7 @@ use Rattle.spatial_hash.specs.Sound.{IsSound}
 use Rattle.std.specs.Prelude.{None, Option}
 use Rattle.std.specs.Option.{IsSome}
 use Rattle.std.specs.List.{IsDistinct}
-use Rattle.std.specs.FinMap.{from_entries, get, find, insert, contains_key, get-from_entries, len, len-empty, len-insert}
+use Rattle.std.specs.FinMap.{from_entries, get, find, insert, contains_key, get-from_entries, len, len-empty}
 use Rattle.std.specs.List.{AllByRecursion}
 use Rattle.std.specs.Option.{is_some}
 use Rattle.std.proofs.lemmas.Map.Keys.{IsDistinct-head, IsDistinct-tail}

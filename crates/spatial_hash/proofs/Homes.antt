@@ -14,11 +14,11 @@ use Rattle.spatial_hash.specs.Lookup.{IsFreeAt, IsNew, IsLookup, IsCellAt}
 use Rattle.spatial_hash.specs.declared.lookup.Lookup.{Lookup}
 use Rattle.spatial_hash.specs.declared.lookup.Lookup.TheVariants.{Found, Vacant, ChainEnd}
 use Rattle.std.specs.FinMap.{insert, get}
-use Rattle.spatial_hash.specs.Contents.{contents, IsKeyAt}
-use Rattle.spatial_hash.proofs.Maps.{contents_taken, contents_put, get_none, get_has, Takes}
+use Rattle.spatial_hash.specs.Contents.{contents}
+use Rattle.spatial_hash.proofs.Maps.{contents_put, get_none, get_has, Takes}
 use Rattle.spatial_hash.proofs.Places.{found, nowhere, first_has}
-use Rattle.spatial_hash.proofs.Filling.{filled_sound, low, here, leads_kept}
-use Rattle.spatial_hash.proofs.Extending.{extended_sound, key_here, key_elsewhere}
+use Rattle.spatial_hash.proofs.Filling.{low, here, leads_kept}
+use Rattle.spatial_hash.proofs.Extending.{key_here, key_elsewhere}
 
 pub home_is : (b w : ℕ) (k : BlockKey) → key_of w ≡ Some k → home b w ≡ bucket_of b k
 unfolding home

@@ -3,8 +3,8 @@ use Rattle.std.proofs.Common.{◌≡◌, ◌≢◌, ℕ, zero, suc, ◌+◌, ◌
 use Rattle.std.specs.Prelude.{Some, None, Option, ◌⊎◌, slice_index}
 use Rattle.std.specs.Option.{option_map}
 use Rattle.std.specs.List.{cons_option}
-use Rattle.std.specs.FinMap.{get, find, insert, remove, same_map, get-from_entries, get-insert, get-remove}
-use Rattle.std.proofs.lemmas.Bool.{cases_eq, cases_Bool, cond-true, cond-false}
+use Rattle.std.specs.FinMap.{get, find, insert, remove, same_map, get-from_entries}
+use Rattle.std.proofs.lemmas.Bool.{cases_eq, cond-true, cond-false}
 use Rattle.voxel_block.specs.declared.key.BlockKey.{BlockKey}
 use Rattle.voxel_block.specs.Keys.{key_cmp, same_key}
 use Rattle.voxel_block.specs.Words.{word_of, key_of}

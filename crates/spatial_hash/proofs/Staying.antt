@@ -4,12 +4,11 @@ use Rattle.std.specs.Prelude.{◌==◌, Some, None, Option, cond}
 use Rattle.std.proofs.lemmas.Bool.{cases_eq}
 use Rattle.voxel_block.specs.declared.key.BlockKey.{BlockKey}
 use Rattle.voxel_block.specs.Words.{word_of, key_of}
-use Rattle.spatial_hash.specs.Hash.{bucket_of, home}
+use Rattle.spatial_hash.specs.Hash.{bucket_of}
 use Rattle.spatial_hash.specs.Table.{Table, entries_in, key_word, link_word}
-use Rattle.spatial_hash.specs.Changes.{written, extended}
-use Rattle.spatial_hash.specs.Walk.{chain_of, run_of, walk_of, first_with, entry_of, IsFilled, StaysPut}
+use Rattle.spatial_hash.specs.Walk.{chain_of, run_of, walk_of, first_with, entry_of, StaysPut}
 use Rattle.spatial_hash.specs.Sound.{Leads, EndsAt, IsSound}
-use Rattle.spatial_hash.specs.Lookup.{IsFreeAt, IsNew, IsLookup, IsCellAt}
+use Rattle.spatial_hash.specs.Lookup.{IsLookup, IsCellAt}
 use Rattle.spatial_hash.specs.declared.lookup.Lookup.{Lookup}
 use Rattle.spatial_hash.specs.declared.lookup.Lookup.TheVariants.{Found, Vacant, ChainEnd}
 use Rattle.std.specs.FinMap.{get}
@@ -17,9 +16,7 @@ use Rattle.spatial_hash.specs.Contents.{contents}
 use Rattle.spatial_hash.proofs.Walks.{first_here, first_later, first_none, run_filled, run_free, run_out, chain_is, entries_of}
 use Rattle.spatial_hash.proofs.Places.{first_has}
 use Rattle.spatial_hash.proofs.Maps.{same_options, Takes}
-use Rattle.spatial_hash.proofs.Filling.{filled_sound}
-use Rattle.spatial_hash.proofs.Extending.{extended_sound}
-use Rattle.spatial_hash.proofs.Homes.{IsWordOf, bucket_low, entry_of_key, takes_filled, takes_extended}
+use Rattle.spatial_hash.proofs.Homes.{bucket_low, entry_of_key}
 
 -- ---- a walk meets entries of the table
 
