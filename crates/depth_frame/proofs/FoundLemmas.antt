@@ -10,10 +10,12 @@ use Rattle.depth_frame.specs.declared.error.BadPgm.{BadPgm}
 use Rattle.depth_frame.specs.declared.error.PgmKind.TheVariants.{Magic, Header, Maxval, Sample, Short}
 use Rattle.depth_frame.specs.declared.header.Mark.{Mark}
 use Rattle.depth_frame.specs.declared.header.Number.{Number}
+use Rattle.depth_frame.specs.declared.header.Role.{Role}
+use Rattle.depth_frame.specs.declared.header.Role.TheVariants as role
 use Rattle.depth_frame.specs.declared.header.Shape.{Shape}
 use Rattle.depth_frame.specs.DepthMaps.{DepthMap}
 use Rattle.depth_frame.specs.Files.{Piece, white, comment, ends_comment, piece_bytes, is_piece, Gap, gap_bytes, is_gap, SampleBytes, sample_of, sample_bytes, IsSample, File, FoundFile}
-use Rattle.depth_frame.specs.Pgm.{gap_end, mark, fault, header_limit, number_end, number_at, judged_at, side_judged, maxval_judged, magic_at, header_at, is_wide, sample_len, with_sample, one_sample, raster_at, pgm_at, starts_gap, is_white, in_comment, pgm_of, placed, short, is_magic}
+use Rattle.depth_frame.specs.Pgm.{gap_end, mark, fault, header_limit, number_end, number_at, judged_at, judged, limit_of, side_judged, maxval_judged, magic_at, header_at, is_wide, sample_len, with_sample, one_sample, raster_at, pgm_at, starts_gap, is_white, in_comment, pgm_of, placed, short, is_magic}
 use Rattle.depth_frame.proofs.FileLemmas.{together, header_size}
 use Rattle.depth_frame.proofs.PgmLemmas.{shape, header_width, header_height, header_maxval, raster_of, depth_map}
 use Rattle.scan_io.specs.Steps.{◌>>=◌}
@@ -197,35 +199,48 @@ number_found b n text k u gap h =
     let d = bind_ok (gap_end (eqb b 35) (n + 1) text) (λ d. number_end d.0.offset (d.0.byte - 48) (d.0.offset + 1) d.1) (k, u) h in
     number_by b n text k u d.0.0 d.0.1 (whole_gap b n text d.0.0 d.0.1 (eqb b 35) gap refl (found text (eqb b 35) (n + 1) d.0.0 d.0.1 d.1)) (digits_found d.0.1 d.0.0.offset (d.0.0.byte - 48) (d.0.0.offset + 1) k u d.2)
 
-record GoodSide (k j : Number) : Type 0 where
-  same : k ≡ j
-  after : starts_gap k.after ≡ true
+-- the byte after a number of that role
+abbrev ends_role : Role → ℕ → Bool
+ends_role role.Side = starts_gap
+ends_role role.Maxval = is_white
+
+record Good (part : Role) (k : Number) : Type 0 where
+  after : ends_role part k.after ≡ true
   least : 1 ≤ k.value
-  most : k.value ≤ 4096
+  most : k.value ≤ limit_of part
   low : k.offset < 4096
 
-side_found : (k j : Number) → side_judged k ≡ Ok j → GoodSide k j
-side_found k j h =
+judged_good : (part : Role) (k j : Number) → judged part k ≡ Ok j → (k ≡ j) × Good part k
+judged_good role.Side k j h =
     let p = not_refused (not (starts_gap k.after)) (fault Header k.offset) _ j h in
     let q = not_refused (not (leb 1 k.value && leb k.value 4096)) (fault Header k.first) _ j p.1 in
     let r = not_refused (leb header_limit k.offset) (fault Header k.offset) _ j q.1 in
     let s = and_parts (leb 1 k.value) (leb k.value 4096) (not-false _ q.0) in
-    record { same = ok_is r.1; after = not-false _ p.0; least = leb-true _ _ s.0; most = leb-true _ _ s.1; low = leb-false _ _ r.0 }
-
-record GoodMaxval (k j : Number) : Type 0 where
-  same : k ≡ j
-  after : is_white k.after ≡ true
-  least : 1 ≤ k.value
-  most : k.value ≤ 65535
-  low : k.offset < 4096
-
-maxval_found : (k j : Number) → maxval_judged k ≡ Ok j → GoodMaxval k j
-maxval_found k j h =
+    (ok_is r.1, record { after = not-false _ p.0; least = leb-true _ _ s.0; most = leb-true _ _ s.1; low = leb-false _ _ r.0 })
+judged_good role.Maxval k j h =
     let p = not_refused (not (is_white k.after)) (fault Header k.offset) _ j h in
     let q = not_refused (leb header_limit k.offset) (fault Header k.offset) _ j p.1 in
     let r = not_refused (not (leb 1 k.value && leb k.value 65535)) (fault Maxval k.first) _ j q.1 in
     let s = and_parts (leb 1 k.value) (leb k.value 65535) (not-false _ r.0) in
-    record { same = ok_is r.1; after = not-false _ p.0; least = leb-true _ _ s.0; most = leb-true _ _ s.1; low = leb-false _ _ q.0 }
+    (ok_is r.1, record { after = not-false _ p.0; least = leb-true _ _ s.0; most = leb-true _ _ s.1; low = leb-false _ _ q.0 })
+
+record FoundJudged (part : Role) (b n : ℕ) (text : List ℕ) (k : Number) (u : List ℕ) : Type 0 where
+  number : FoundNumber b n text k u
+  good : Good part k
+
+judged_found : (part : Role) (b n : ℕ) (text : List ℕ) (k : Number) (u : List ℕ) → starts_gap b ≡ true → judged_at (judged part) b n text ≡ Ok (k, u) → FoundJudged part b n text k u
+unfolding judged_at
+judged_found part b n text k u gap h =
+    let m = bind_ok (number_at b n text) (λ m. judged part m.0 >>= λ j. Ok (j, m.1)) (k, u) h in
+    let g = bind_ok (judged part m.0.0) (λ j. Ok (j, m.0.1)) (k, u) m.2 in
+    let p = ok_is g.2 in
+    let rest : m.0.1 ≡ u = ap (λ (q : Number × List ℕ). q.1) p in
+    let good = judged_good part m.0.0 g.0 g.1 in
+    let same : m.0.0 ≡ k = good.0 ∙ ap (λ (q : Number × List ℕ). q.0) p in
+    record {
+      number = subst (λ (x : Number). FoundNumber b n text x u) same (number_found b n text m.0.0 u gap (m.1 ∙ ap (λ (l : List ℕ). Ok (m.0.0, l)) rest));
+      good = subst (λ (x : Number). Good part x) same good.1;
+    }
 
 -- ---- samples
 
@@ -300,9 +315,15 @@ samples_found maxval (suc count) n text vs u h =
 
 -- ---- the file
 
-file_by : (b : ℕ) (w h m w' h' m' : Number) (t0 tw th tm vs u : List ℕ) → FoundNumber b 2 t0 w tw → GoodSide w w' → FoundNumber w.after w.offset tw h th → GoodSide h h' → FoundNumber h.after h.offset th m tm → GoodMaxval m m'
+file_by : (b : ℕ) (w h m : Number) (t0 tw th tm vs u : List ℕ) → FoundJudged role.Side b 2 t0 w tw → FoundJudged role.Side w.after w.offset tw h th → FoundJudged role.Maxval h.after h.offset th m tm
     → FoundSamples m.value (w.value * h.value) tm vs u → FoundFile (80 ∷ 53 ∷ b ∷ t0) (record { width = w.value; height = h.value; raw = vs }) u
-file_by b w h m w' h' m' t0 tw th tm vs u fw sw fh sh fm sm fs =
+file_by b w h m t0 tw th tm vs u jw jh jm fs =
+    let fw = jw.number in
+    let sw = jw.good in
+    let fh = jh.number in
+    let sh = jh.good in
+    let fm = jm.number in
+    let sm = jm.good in
     let s = subst (λ (x : ℕ). FoundSamples x (w.value * h.value) tm vs u) fm.value fs in
     let f : File = record { before_width = fw.gap; width = fw.digits; before_height = fh.gap; height = fh.digits; before_maxval = fm.gap; maxval = fm.digits; after_maxval = m.after; samples = s.samples } in
     let size = header_size (gap_bytes fw.gap) fw.digits (gap_bytes fh.gap) fh.digits (gap_bytes fm.gap) fm.digits m.after in
@@ -349,53 +370,18 @@ magic_found [] c u h = absurd cc
 magic_found (a ∷ []) c u h = absurd cc
 magic_found (a ∷ b ∷ rest) c u h = magic_by a b rest c u (is_magic a b) refl h
 
-record FoundJudged (judge : Number → Result Number BadPgm) (b n : ℕ) (text : List ℕ) (j : Number) (u : List ℕ) : Type 0 where
-  number : Number
-  is : number_at b n text ≡ Ok (number, u)
-  judged : judge number ≡ Ok j
-
-judged_found : (judge : Number → Result Number BadPgm) (b n : ℕ) (text : List ℕ) (j : Number) (u : List ℕ) → judged_at judge b n text ≡ Ok (j, u) → FoundJudged judge b n text j u
-unfolding judged_at
-judged_found judge b n text j u h =
-    let k = bind_ok (number_at b n text) (λ k. judge k.0 >>= λ j. Ok (j, k.1)) (j, u) h in
-    let g = bind_ok (judge k.0.0) (λ j. Ok (j, k.0.1)) (j, u) k.2 in
-    let p = ok_is g.2 in
-    let same : g.0 ≡ j = ap (λ (q : Number × List ℕ). q.0) p in
-    let rest : k.0.1 ≡ u = ap (λ (q : Number × List ℕ). q.1) p in
-    record { number = k.0.0; is = k.1 ∙ ap (λ (l : List ℕ). Ok (k.0.0, l)) rest; judged = g.1 ∙ ap Ok same }
-
-record FoundSide (b n : ℕ) (text : List ℕ) (k : Number) (u : List ℕ) : Type 0 where
-  number : FoundNumber b n text k u
-  side : GoodSide k k
-
-side_read : (b n : ℕ) (text : List ℕ) (k : Number) (u : List ℕ) → starts_gap b ≡ true → judged_at side_judged b n text ≡ Ok (k, u) → FoundSide b n text k u
-side_read b n text k u gap h =
-    let f = judged_found side_judged b n text k u h in
-    let s = side_found f.number k f.judged in
-    record { number = subst (λ (x : Number). FoundNumber b n text x u) s.same (number_found b n text f.number u gap f.is); side = subst (λ (x : Number). GoodSide x k) s.same s }
-
-record FoundMaxval (b n : ℕ) (text : List ℕ) (k : Number) (u : List ℕ) : Type 0 where
-  number : FoundNumber b n text k u
-  greatest : GoodMaxval k k
-
-maxval_read : (b n : ℕ) (text : List ℕ) (k : Number) (u : List ℕ) → starts_gap b ≡ true → judged_at maxval_judged b n text ≡ Ok (k, u) → FoundMaxval b n text k u
-maxval_read b n text k u gap h =
-    let f = judged_found maxval_judged b n text k u h in
-    let s = maxval_found f.number k f.judged in
-    record { number = subst (λ (x : Number). FoundNumber b n text x u) s.same (number_found b n text f.number u gap f.is); greatest = subst (λ (x : Number). GoodMaxval x k) s.same s }
-
 record FoundHeader (text : List ℕ) (s : Shape) (u : List ℕ) : Type 0 where
   byte : ℕ
   rest : List ℕ
   magic : FoundMagic text byte rest
   width : Number
   after_width : List ℕ
-  width_is : FoundSide byte 2 rest width after_width
+  width_is : FoundJudged role.Side byte 2 rest width after_width
   height : Number
   after_height : List ℕ
-  height_is : FoundSide width.after width.offset after_width height after_height
+  height_is : FoundJudged role.Side width.after width.offset after_width height after_height
   maxval : Number
-  maxval_is : FoundMaxval height.after height.offset after_height maxval u
+  maxval_is : FoundJudged role.Maxval height.after height.offset after_height maxval u
   is : shape width height maxval ≡ s
 
 header_found : (text : List ℕ) (s : Shape) (u : List ℕ) → header_at text ≡ Ok (s, u) → FoundHeader text s u
@@ -404,20 +390,20 @@ header_found text s u h =
     let b = bind_ok (magic_at text) (λ p. header_width p.0 p.1) (s, u) h in
     let m = magic_found text b.0.0 b.0.1 b.1 in
     let w = bind_ok (judged_at side_judged b.0.0 2 b.0.1) (λ p. header_height p.0 p.1) (s, u) b.2 in
-    let ws = side_read b.0.0 2 b.0.1 w.0.0 w.0.1 m.gap w.1 in
+    let ws = judged_found role.Side b.0.0 2 b.0.1 w.0.0 w.0.1 m.gap w.1 in
     let k = bind_ok (judged_at side_judged w.0.0.after w.0.0.offset w.0.1) (λ p. header_maxval w.0.0 p.0 p.1) (s, u) w.2 in
-    let hs = side_read w.0.0.after w.0.0.offset w.0.1 k.0.0 k.0.1 ws.side.after k.1 in
+    let hs = judged_found role.Side w.0.0.after w.0.0.offset w.0.1 k.0.0 k.0.1 ws.good.after k.1 in
     let g = bind_ok (judged_at maxval_judged k.0.0.after k.0.0.offset k.0.1) (λ p. Ok (shape w.0.0 k.0.0 p.0, p.1)) (s, u) k.2 in
     let p = ok_is g.2 in
     let rest : g.0.1 ≡ u = ap (λ (q : Shape × List ℕ). q.1) p in
-    let ms = maxval_read k.0.0.after k.0.0.offset k.0.1 g.0.0 u hs.side.after (g.1 ∙ ap (λ (l : List ℕ). Ok (g.0.0, l)) rest) in
+    let ms = judged_found role.Maxval k.0.0.after k.0.0.offset k.0.1 g.0.0 u hs.good.after (g.1 ∙ ap (λ (l : List ℕ). Ok (g.0.0, l)) rest) in
     record { byte = b.0.0; rest = b.0.1; magic = m; width = w.0.0; after_width = w.0.1; width_is = ws; height = k.0.0; after_height = k.0.1; height_is = hs; maxval = g.0.0; maxval_is = ms; is = ap (λ (q : Shape × List ℕ). q.0) p }
 
 found_by : (text : List ℕ) (s : Shape) (t vs u : List ℕ) → FoundHeader text s t → raster_at s.maxval (s.width * s.height) s.start t ≡ Ok (vs, u) → FoundFile text (record { width = s.width; height = s.height; raw = vs }) u
 found_by text s t vs u f h =
     let samples = samples_found s.maxval (s.width * s.height) s.start t vs u h in
     let of_shape = subst (λ (x : Shape). FoundSamples x.maxval (x.width * x.height) t vs u) (sym f.is) samples in
-    let file = file_by f.byte f.width f.height f.maxval f.width f.height f.maxval f.rest f.after_width f.after_height t vs u f.width_is.number f.width_is.side f.height_is.number f.height_is.side f.maxval_is.number f.maxval_is.greatest of_shape in
+    let file = file_by f.byte f.width f.height f.maxval f.rest f.after_width f.after_height t vs u f.width_is f.height_is f.maxval_is of_shape in
     let back = subst (λ (x : Shape). FoundFile (80 ∷ 53 ∷ f.byte ∷ f.rest) (record { width = x.width; height = x.height; raw = vs }) u) f.is file in
     subst (λ (l : List ℕ). FoundFile l (record { width = s.width; height = s.height; raw = vs }) u) (sym f.magic.is) back
 

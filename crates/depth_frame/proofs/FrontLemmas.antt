@@ -1,20 +1,16 @@
 -- What the reading of a text as a depth map's file says of every longer text.
-use Rattle.std.proofs.Common.{◌≡◌, ◌≢◌, ℕ, zero, suc, ◌+◌, ◌*◌, ◌≤◌, ◌<◌, ◌-◌, List, [], ◌∷◌, ◌++◌, length, Bool, eqb, leb, not, ◌&&◌, ◌||◌, Result, Ok, Err, refl, sym, ap, ◌∙◌, min, arith}
+use Rattle.std.proofs.Common.{◌≡◌, ◌≢◌, ℕ, zero, suc, ◌+◌, ◌*◌, ◌≤◌, ◌<◌, ◌-◌, List, [], ◌∷◌, length, Bool, eqb, leb, not, ◌&&◌, ◌||◌, Result, Ok, Err, refl, ap, arith}
 use Rattle.std.proofs.Math.Nat.{suc-mul}
 use Rattle.std.specs.Char.{is_ascii_digit}
 use Rattle.fixed_geom.specs.Decimal.{with_digit}
 use Rattle.depth_frame.specs.declared.error.BadPgm.{BadPgm}
-use Rattle.depth_frame.specs.declared.error.PgmKind.{PgmKind}
 use Rattle.depth_frame.specs.declared.error.PgmKind.TheVariants.{Magic, Header, Maxval, Sample, Short}
-use Rattle.depth_frame.specs.declared.header.Mark.{Mark}
 use Rattle.depth_frame.specs.declared.header.Number.{Number}
-use Rattle.depth_frame.specs.declared.header.Shape.{Shape}
-use Rattle.depth_frame.specs.DepthMaps.{DepthMap}
 use Rattle.depth_frame.specs.Pgm.{fault, short, header_limit, in_gap, in_comment, mark, gap_end, number_end, number_at, judged_at, side_judged, maxval_judged, is_white, starts_gap, is_magic, magic_at, header_at, is_wide, sample_judged, sample_len, one_sample, with_sample, raster_at, pgm_at, placed, pgm_of, ShortIsAtEnd, CutIsShort, CutRefusalIsShort, OthersAreInside, OthersStay}
 use Rattle.scan_io.specs.Reading.{byte_at, saturated}
 use Rattle.scan_io.specs.Steps.{◌>>=◌}
 use Rattle.scan_io.proofs.Fronts.{Front, cut, front_ok, front_err, front_cons, front_if, front_same, front_then, front_turned, front_byte, Given, given_ok, given_err, given_if, front_given, refusal_is_ended, refusal_is_other, refusal_stays, cut_is_ended, cut_refusal_is_ended}
-use Rattle.depth_frame.proofs.PgmLemmas.{magic_third, magic_end, number_rest, judged_rest, header_width, header_height, header_maxval, shape, sample_high, sample_low, depth_map, raster_of}
+use Rattle.depth_frame.proofs.PgmLemmas.{magic_third, magic_end, number_rest, judged_rest, header_width, header_height, header_maxval, shape, sample_high, depth_map, raster_of}
 
 -- a refusal for another cause than an early end, at one of the first `end` bytes
 abbrev pub IsInside : (end : ℕ) → BadPgm → Type 0

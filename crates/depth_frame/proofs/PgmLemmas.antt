@@ -1,5 +1,5 @@
 -- The steps of a header and of a raster, byte by byte.
-use Rattle.std.proofs.Common.{◌≡◌, ℕ, suc, ◌+◌, ◌-◌, ◌*◌, ◌^◌, ◌≤◌, ◌<◌, add-one, append_assoc, List, [], ◌∷◌, ◌++◌, Bool, true, false, leb, eqb, ◌||◌, ◌⊎◌, inl, inr, Result, Ok, Err, refl, cond, arith}
+use Rattle.std.proofs.Common.{◌≡◌, ℕ, suc, ◌+◌, ◌-◌, ◌*◌, ◌^◌, ◌≤◌, ◌<◌, add-one, append_assoc, List, [], ◌∷◌, ◌++◌, Bool, true, false, leb, eqb, ◌⊎◌, inl, inr, Result, Ok, Err, refl, cond, arith}
 use Rattle.std.proofs.lemmas.Bool.{le-leb, lt-leb}
 use Rattle.std.proofs.lemmas.List.{append-nil}
 use Rattle.std.specs.Char.{is_ascii_digit}
