@@ -5,12 +5,11 @@ use Rattle.std.specs.Int.{int_max, int_min}
 use Rattle.std.proofs.lemmas.Int.{ints, clamps}
 use mir.Val.{SFits}
 use mir.Syntax.{w64}
-use Rattle.fixed_geom.specs.declared.vector.Vec3.{Vec3}
-use Rattle.fixed_geom.specs.Vectors.{IsWithin, AreWithin}
+use Rattle.fixed_geom.specs.Vectors.{IsWithin}
 use Rattle.camera.specs.declared.camera.CameraFields.{CameraFields}
 use Rattle.camera.specs.Cameras.{HasRanges, max_depth, left, right}
-use Rattle.camera.specs.Visibility.{margin, side_depth, is_at_depth, is_between_sides}
-use Rattle.camera.proofs.Readings.{read, read128, fits64, fields_read, wide_read, wider}
+use Rattle.camera.specs.Visibility.{margin, is_at_depth, is_between_sides}
+use Rattle.camera.proofs.Readings.{read, read128, fits64, wider}
 
 -- ---- two tests, the second one tried where the first one holds
 

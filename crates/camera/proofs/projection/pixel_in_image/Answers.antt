@@ -1,4 +1,3 @@
-use Rattle.std.proofs.Common.{◌≡◌}
 use Rattle.camera.proofs.Readings.{fields_read}
 use Rattle.camera.proofs.ProjectionLemmas.{below_read}
 use Rattle.camera.proofs.projection.pixel_in_image.Goals as goal

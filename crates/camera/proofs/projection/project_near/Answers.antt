@@ -1,7 +1,6 @@
 use Rattle.std.proofs.Common.{arith}
 use Rattle.std.specs.Prelude.{pos, ◌≤ℤ◌}
 use Rattle.std.proofs.lemmas.Int.{ints}
-use Rattle.fixed_geom.specs.Vectors.{AreWithin}
 use Rattle.camera.proofs.Readings.{all_wider}
 use Rattle.camera.proofs.ProjectionLemmas.{columns, rows, projection_is}
 use Rattle.camera.proofs.projection.project_near.Goals as goal

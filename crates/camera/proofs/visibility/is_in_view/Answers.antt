@@ -1,5 +1,4 @@
 use Rattle.std.proofs.Common.{◌≡◌, ◌∙◌, ap}
-use Rattle.std.specs.Prelude.{ℤ}
 use Rattle.camera.specs.Visibility.{margin, side_depth, is_between_sides}
 use Rattle.camera.proofs.Readings.{read, fields_read, wide_read}
 use Rattle.camera.proofs.VisibilityLemmas.{depth_read, first_tells, second_tells, sides_read, small_read}
