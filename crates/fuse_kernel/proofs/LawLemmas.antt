@@ -87,7 +87,7 @@ active_by_met w b i o below m = met_is_active w.camera w.pose b i o.camera.range
 pub none_met_stays : (w : View) (n : ℕ) (b : BlockKey) (voxels : List Voxel) → length voxels ≡ 512 → ((i : ℕ) → i < 512 → ¬ Meets w (point_of w.camera.voxel b i)) → updated w n b voxels ≡ voxels
 none_met_stays w n b voxels long none = by_index-unchanged (λ i x. update w n (point_of w.camera.voxel b i) x) voxels (λ i x is. unmet_stays w n (point_of w.camera.voxel b i) x (none i (omega (arith, long, slice_get_within voxels i x is))))
 
--- as by the culling test
+-- the same, by the clause of the culling test
 pub meets_none_stays : (w : View) (n : ℕ) (b : BlockKey) (voxels : List Voxel) → length voxels ≡ 512 → MeetsNone w.camera w.pose b → voxels ≡ updated w n b voxels
 meets_none_stays w n b voxels long none = sym (none_met_stays w n b voxels long (λ i below m. none i below (met_is_met w (point_of w.camera.voxel b i) m)))
 

@@ -21,7 +21,7 @@ tsdf mu eta = int_min (pos 32767) (floor_div (pos 32767 *ℤ eta) mu)
 abbrev pub mean : (w : ℕ) → (old new : ℤ) → ℤ
 mean w old new = round_div (pos w *ℤ old +ℤ new) (pos (w + 1))
 
--- a voxel with the signed distance eta: the mean of its distance and the new one, and one more weight, at most the greatest one
+-- a voxel after one more signed distance eta: the mean of its distance and the new one, and one more weight, at most the greatest one
 abbrev pub averaged : (mu : ℤ) → (max_weight : ℕ) → (eta : ℤ) → Voxel → Voxel
 averaged mu n eta x = record { f = mean x.w x.f (tsdf mu eta); w = min (x.w + 1) n }
 

@@ -1,4 +1,4 @@
-//! A voxel by its signed distance, which is a running average (Curless and Levoy 1996).
+//! The running average of a voxel's signed distances (Curless and Levoy 1996).
 ghost use Rattle.std.specs.Prelude.{◌≡◌, ◌^◌, ◌≤◌, pos, neg_ℤ, ◌+ℤ◌, ◌-ℤ◌, ◌*ℤ◌, ◌≤ℤ◌, ◌<ℤ◌, ◌+◌, min};
 ghost use Rattle.fixed_geom.specs.Vectors.{IsWithin};
 ghost use Rattle.voxel_block.specs.Voxels.{IsVoxel};
@@ -9,7 +9,7 @@ use voxel_block::Voxel;
 /// The greatest distance of a voxel, which stands for the truncation distance and beyond.
 const FAR: i16 = 32767;
 
-/// A voxel with the signed distance `eta`, which is at least the negative truncation distance `mu`. Both are in
+/// A voxel after one more signed distance `eta`, which is at least `-mu`. `mu` is the truncation distance, and both are in
 /// micrometres.
 pub(crate) fn averaged(mu: i64, max_weight: u8, eta: i64, voxel: Voxel) -> Voxel
     requires mu { IsWithin (pos 1000000) mu }

@@ -157,8 +157,8 @@ fn a_wall_by_signed_distances(rt: HostRuntime) {
     }
 }
 
-// How many voxels of a block are known, and the sums over all voxels of (i + 1) times the distance and of (i + 1) times the
-// weight.
+// The number of known voxels of a block, and the sums over all voxels of (i + 1) times the distance and of (i + 1) times
+// the weight.
 fn sums(block: &Block) -> (u32, i64, i64) {
     let mut known = 0_u32;
     let (mut distance, mut weight) = (0_i64, 0_i64);

@@ -1,4 +1,4 @@
-ghost use Rattle.std.specs.Prelude.{◌≡◌, ◌^◌, ◌≤◌, ◌<◌, ◌+◌, ◌*◌, pos, neg_ℤ, ◌≤ℤ◌, int_le, IfSome, List, length};
+ghost use Rattle.std.specs.Prelude.{◌≡◌, ◌^◌, ◌≤◌, ◌<◌, ◌+◌, ◌*◌, pos, neg_ℤ, ◌≤ℤ◌, int_le, IfSome, List};
 ghost use Rattle.fixed_geom.specs.Poses.{Pose, cam};
 ghost use Rattle.fixed_geom.specs.Vectors.{AreWithin, IsWithin};
 ghost use Rattle.voxel_block.specs.declared.key.BlockKey.{BlockKey};
@@ -35,25 +35,8 @@ pub fn update_block(
         return;
     }
     let steps = VoxelSteps::make(camera, pose, key);
-    update_rows(block, &steps, camera, frame, max_weight);
-}
-
-/// Updates the voxels of a block, row by row.
-fn update_rows(
-    block: &mut Block,
-    steps: &VoxelSteps,
-    camera: &Camera,
-    frame: &DepthFrame,
-    max_weight: u8,
-)
-    requires fits { FitsImage camera.now frame.now }
-    requires weight { 1 ≤ max_weight }
-    requires steps { HasStepBounds steps.now }
-    requires count { length block.old ≡ 512 }
-    ensures { (m : Pose) (b : BlockKey) → steps.now ≡ voxel_steps_of camera.now.voxel m b → block.new ≡ updated (view_of camera.now m frame.now) max_weight b block.old }
-{
     for row in 0..64 {
-        update_row(block, row, steps, camera, frame, max_weight);
+        update_row(block, row, &steps, camera, frame, max_weight);
     }
 }
 
