@@ -1,13 +1,11 @@
 -- A map that gives each of its keys a value by a rule.
-use Rattle.std.proofs.Common.{◌≡◌, ℕ, ◌+◌, Bool, true, false, cond, ◌||◌, List, [], ◌∷◌, map, length, refl, sym, ap, ◌∙◌, arith, add-zero}
+use Rattle.std.proofs.Common.{◌≡◌, Bool, true, false, cond, ◌||◌, List, [], ◌∷◌, map, refl, sym, ap, ◌∙◌}
 use Rattle.std.specs.Prelude.{Option, Some, None, is_some, unwrap_or}
 use Rattle.std.specs.Option.{option_map}
-use Rattle.std.specs.List.{list_any, count_by}
+use Rattle.std.specs.List.{list_any}
 use Rattle.std.specs.Ordering.{eq_by_cmp}
 use Rattle.std.specs.Cmp.{Equal-is}
-use Rattle.std.specs.FinMap.{FinMap, get, keys, entries, len, len-entries, from_entries, find, get-from_entries, same_map}
-use Rattle.std.proofs.lemmas.List.{length-map}
-use Rattle.std.proofs.lemmas.List.Sums.{sum_by-cons}
+use Rattle.std.specs.FinMap.{get, from_entries, find, get-from_entries, same_map}
 use Rattle.voxel_block.specs.declared.key.BlockKey.{BlockKey}
 use Rattle.voxel_block.specs.Keys.{key_cmp}
 use Rattle.voxel_block.proofs.KeyLaws.{exact_keys, keys_total}
@@ -43,28 +41,3 @@ module _ {X : Type 0} where
   pub by_default : (g : X → X) (d : X) (o : Option X) → option_map g o ≡ cond (is_some o) (Some (g (unwrap_or o d))) None
   by_default g d None = refl
   by_default g d (Some x) = refl
-
--- ---- a walk over the keys of a map that counts those that pass a test
-
-pub added : (n a b c total : ℕ) → c ≡ a + b → n + c ≡ total → (n + a) + b ≡ total
-added n a b c total e h = omega arith
-
-module _ {X : Type 0} (test : X → Bool) where
-  pub count_by-cons : (x : X) (xs : List X) → count_by test (x ∷ xs) ≡ cond (test x) 1 0 + count_by test xs
-  count_by-cons x xs = sum_by-cons (λ y. cond (test y) 1 0) x xs
-
-  pub counted_yes : (x : X) (xs ys : List X) (n total : ℕ) → ys ≡ x ∷ xs → test x ≡ true → n + count_by test ys ≡ total → (n + 1) + count_by test xs ≡ total
-  counted_yes x xs ys n total is passes h =
-      let e : count_by test ys ≡ 1 + count_by test xs = ap (count_by test) is ∙ count_by-cons x xs ∙ ap (λ t. cond t 1 0 + count_by test xs) passes in
-      added n 1 (count_by test xs) (count_by test ys) total e h
-
-  pub counted_no : (x : X) (xs ys : List X) (n total : ℕ) → ys ≡ x ∷ xs → test x ≡ false → n + count_by test ys ≡ total → n + count_by test xs ≡ total
-  counted_no x xs ys n total is fails h =
-      let e : count_by test ys ≡ 0 + count_by test xs = ap (count_by test) is ∙ count_by-cons x xs ∙ ap (λ t. cond t 1 0 + count_by test xs) fails in
-      ap (λ k. k + count_by test xs) (sym (add-zero n)) ∙ added n 0 (count_by test xs) (count_by test ys) total e h
-
-pub shorter : {X : Type 0} (x : X) (xs ys : List X) → ys ≡ x ∷ xs → length ys ≡ length xs + 1
-shorter x xs ys is = ap length is ∙ (omega arith)
-
-pub count_keys : {X : Type 0} (m : FinMap key_cmp X) → len m ≡ length (keys m)
-count_keys m = len-entries m ∙ sym (length-map (entries m) (λ e. e.0))

@@ -10,8 +10,8 @@ use Rattle.std.specs.FinMap.Entries.{below_all}
 use Rattle.voxel_block.specs.declared.key.BlockKey.{BlockKey}
 use Rattle.voxel_block.specs.Keys.{key_cmp}
 use Rattle.voxel_block.proofs.KeyLaws.{exact_keys, keys_total}
-use Rattle.session.proofs.MapLemmas.{same_key, pairs_of, get-pairs_of}
-use Rattle.session.proofs.FuseLemmas.{sorted_pairs, entries_of_sorted}
+use Rattle.fusion_core.proofs.MapLemmas.{same_key, pairs_of, get-pairs_of}
+use Rattle.fusion_core.proofs.FuseLemmas.{sorted_pairs, entries_of_sorted}
 
 -- ---- each once
 

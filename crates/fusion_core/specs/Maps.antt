@@ -1,4 +1,4 @@
--- A map of the world: blocks by their keys, without bound, and how a frame is fused into it.
+-- A map: blocks by their keys, without bound, and how a frame is fused into it.
 use Rattle.std.specs.Prelude.{◌≡◌, ℕ, if◌then◌else◌, List, ◌++◌, map, length, Some, unwrap_or}
 use Rattle.std.specs.FinMap.{FinMap, get, keys, contains_key, insert, from_entries}
 use Rattle.std.specs.List.{count_by}
@@ -8,8 +8,7 @@ use Rattle.voxel_block.specs.Keys.{key_cmp}
 use Rattle.voxel_block.specs.Blocks.{new_block}
 use Rattle.fuse_kernel.specs.Updates.{updated}
 use Rattle.band_walk.specs.Bands.{band}
-use Rattle.session.specs.declared.frame.Frame.{Frame}
-use Rattle.session.specs.Frames.{is_active, view}
+use Rattle.fusion_core.specs.Frames.{Frame, is_active, view}
 
 -- from keys, in their order, to the 512 voxels of a block
 abbrev pub BlockMap : Type 0
@@ -35,7 +34,7 @@ active_count f m = count_by (is_active f) (keys m)
 abbrev pub need : BlockMap → Frame → ℕ
 need m f = active_count f (fuse m f)
 
--- ---- the two steps of a fusion, of which only its parts speak
+-- ---- the two steps of a fusion, for those who fuse by them
 
 -- the map with a new block at a key that it lacks
 abbrev pub touched : BlockMap → BlockKey → BlockMap

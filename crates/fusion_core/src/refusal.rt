@@ -1,0 +1,23 @@
+ghost use Rattle.std.specs.Prelude.{◌≡◌};
+ghost use Rattle.fusion_core.specs.declared.refusal.Refusal.TheVariants.{BadPose as bad_pose};
+
+use fixed_geom::BadPose;
+
+/// Why a frame is refused. A refused frame changes nothing.
+#[derive(Clone, Copy, Debug, PartialEq, Eq)]
+pub enum Refusal {
+    /// The depth map has these sides, which are not those of the camera's image.
+    Size { width: u32, height: u32 },
+    /// The rows are no pose.
+    BadPose(BadPose),
+    /// More blocks would be active than this limit.
+    HeapSpent { limit: u32 },
+}
+
+impl From<BadPose> for Refusal {
+    ghost from_gives = { λ why e. e ≡ bad_pose why };
+
+    fn from(why: BadPose) -> Self {
+        Refusal::BadPose(why)
+    }
+}
