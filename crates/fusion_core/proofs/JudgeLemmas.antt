@@ -5,16 +5,18 @@ use Rattle.std.specs.Ordering.{int_eq}
 use Rattle.std.proofs.lemmas.Bool.{and_parts}
 use Rattle.std.proofs.lemmas.Bool.Decides.{Decides-int_eq}
 use Rattle.fixed_geom.specs.Poses.{Pose, IsPose}
+use Rattle.fixed_geom.specs.PoseTest.{accepted, pose_of}
 use Rattle.fixed_geom.specs.declared.pose.PoseRows.{PoseRows}
+use Rattle.fixed_geom.specs.declared.pose.BadPose.{BadPose}
 use Rattle.depth_frame.specs.DepthMaps.{DepthMap}
 use Rattle.camera.specs.Cameras.{IsCamera}
 use Rattle.scan_io.specs.Steps.{◌>>=◌}
 use Rattle.fusion_core.specs.declared.settings.Settings.{Settings}
 use Rattle.fusion_core.specs.declared.refusal.Refusal.{Refusal}
-use Rattle.fusion_core.specs.declared.refusal.Refusal.TheVariants.{HeapSpent}
+use Rattle.fusion_core.specs.declared.refusal.Refusal.TheVariants.{Size, BadPose as bad_pose, HeapSpent}
 use Rattle.fusion_core.specs.Frames.{Frame, IsFrame}
 use Rattle.fusion_core.specs.Maps.{BlockMap, need}
-use Rattle.fusion_core.specs.Fold.{State, frame_of, has_size, offered, with_room, judged}
+use Rattle.fusion_core.specs.Fold.{State, frame_of, has_size, offered, posed, with_room, judged}
 
 -- what is made of a pose and a depth map of the right sides is a frame
 pub is_frame : (c : Settings) (pose : Pose) (depths : DepthMap) → IsCamera c.camera → IsPose pose → 1 ≤ c.max_weight → has_size c.camera depths ≡ true → IsFrame (frame_of c pose depths)
@@ -30,6 +32,16 @@ is_frame c pose depths camera p weight sides =
       };
       max_weight = weight;
     }
+
+module _ (c : Settings) (rows : PoseRows) (depths : DepthMap) where
+  -- a frame of another size is not offered, nor is one whose rows are no pose
+  pub offered_size : has_size c.camera depths ≡ false → offered c rows depths ≡ Err (Size depths.width depths.height)
+  unfolding offered
+  offered_size e = ap (λ b. cond b (posed c depths (accepted (pose_of rows))) (Err (Size depths.width depths.height))) e
+
+  pub offered_pose : (why : BadPose) → has_size c.camera depths ≡ true → accepted (pose_of rows) ≡ Err why → offered c rows depths ≡ Err (bad_pose why)
+  unfolding offered
+  offered_pose why e p = λ i. cond (e i) (posed c depths (p i)) (Err (Size depths.width depths.height))
 
 module _ (c : Settings) (s : State) (rows : PoseRows) (depths : DepthMap) where
   -- a frame that is offered is judged by its room

@@ -1,8 +1,10 @@
 ghost use Rattle.std.specs.Prelude.{◌≡◌};
-ghost use Rattle.session.specs.declared.error.FrameError.TheVariants.{BadPose as bad_pose, NoMemory as no_memory};
+ghost use Rattle.session.specs.declared.error.FrameError.TheVariants.{NoMemory as no_memory};
 ghost use Rattle.session.specs.declared.error.ReadError.TheVariants.{NoMemory as not_read};
+ghost use Rattle.session.specs.Answers.{frame_error};
 
 use fixed_geom::BadPose;
+use fusion_core::Refusal;
 use std::alloc::AllocError;
 use voxel_block::NoMemory;
 
@@ -15,15 +17,19 @@ pub enum FrameError {
     BadPose(BadPose),
     /// More blocks would be active than this limit of the configuration.
     HeapSpent { limit: u32 },
-    /// Memory is wanting.
+    /// Out of memory.
     NoMemory,
 }
 
-impl From<BadPose> for FrameError {
-    ghost from_gives = { λ why e. e ≡ bad_pose why };
+impl From<Refusal> for FrameError {
+    ghost from_gives = { λ why e. e ≡ frame_error why };
 
-    fn from(why: BadPose) -> Self {
-        FrameError::BadPose(why)
+    fn from(why: Refusal) -> Self {
+        match why {
+            Refusal::Size { width, height } => FrameError::Size { width, height },
+            Refusal::BadPose(why) => FrameError::BadPose(why),
+            Refusal::HeapSpent { limit } => FrameError::HeapSpent { limit },
+        }
     }
 }
 
@@ -46,7 +52,7 @@ impl From<NoMemory> for FrameError {
 /// Why a map was not read. After it the session is as before.
 #[derive(Clone, Copy, Debug, PartialEq, Eq)]
 pub enum ReadError {
-    /// Memory is wanting.
+    /// Out of memory.
     NoMemory,
 }
 

@@ -2,9 +2,9 @@ use Rattle.std.proofs.Common.{List, fold, refl, sym, ap, ◌∙◌}
 use Rattle.voxel_block.specs.declared.key.BlockKey.{BlockKey}
 use Rattle.band_walk.specs.Bands.{row_blocks}
 use Rattle.block_places.specs.Places.{blocks_of}
-use Rattle.session.specs.Frames.{view}
-use Rattle.session.specs.Maps.{BlockMap, touched}
-use Rattle.session.proofs.BandLemmas.{touched_dedup}
+use Rattle.fusion_core.specs.Frames.{view}
+use Rattle.fusion_core.specs.Maps.{BlockMap, touched}
+use Rattle.fusion_core.proofs.TouchLemmas.{touched_dedup}
 use Rattle.session.proofs.KeepLemmas.{keeps_same, keeps_more, keeps_touched}
 use Rattle.session.proofs.band.touch_row.Goals as goal
 

@@ -2,8 +2,8 @@ use Rattle.std.proofs.Common.{◌≡◌, ◌+◌, length, sym, ap, ◌∙◌, ar
 use Rattle.std.specs.List.{count_by}
 use Rattle.std.specs.FinMap.{len}
 use Rattle.block_places.specs.Places.{blocks_of}
-use Rattle.session.specs.Frames.{is_active}
-use Rattle.session.proofs.MapLemmas.{counted_yes, counted_no, shorter, count_keys}
+use Rattle.fusion_core.specs.Frames.{is_active}
+use Rattle.session.proofs.CountLemmas.{counted_yes, counted_no, shorter, count_keys}
 use Rattle.session.proofs.room.active_count.Goals as goal
 
 pub overflow_add-count : goal.overflow_add-count
