@@ -1,4 +1,4 @@
-mod BandSet
+pub mod BandSet
 mod FloorLemmas
 mod Keys
 mod Machine

@@ -1,10 +1,11 @@
 -- What is proved of every frame and of every map.
-use Rattle.std.specs.Prelude.{◌≡◌, ◌↔◌, ℕ, ◌≤◌, ◌^◌, ◌*ℤ◌, pos, All, IsTrue, List, None, Some}
+use Rattle.std.specs.Prelude.{◌≡◌, ◌↔◌, ℕ, ℤ, pos, ◌*ℤ◌, IsTrue, List, None, Some}
 use Rattle.std.specs.List.{fold}
 use Rattle.std.specs.FinMap.{empty, get, contains_key}
-use Rattle.fixed_geom.specs.Vectors.{AreWithin, vec}
+use Rattle.fixed_geom.specs.Vectors.{IsWithin}
 use Rattle.voxel_block.specs.declared.key.BlockKey.{BlockKey}
 use Rattle.voxel_block.specs.declared.voxel.Voxel.{Voxel}
+use Rattle.fuse_kernel.specs.Updates.{HasWeightsWithin}
 use Rattle.band_walk.specs.Bands.{band}
 use Rattle.fusion_core.specs.declared.settings.Settings.{Settings}
 use Rattle.fusion_core.specs.Frames.{Frame, IsFrame, view}
@@ -15,20 +16,25 @@ use Rattle.fusion_core.specs.Fold.{State, fused, start}
 abbrev pub TouchedThenUpdated : Type 0
 TouchedThenUpdated = (f : Frame) (m : BlockMap) → all_updated f (fold touched m (band (view f))) ≡ fuse m f
 
--- no weight of a map is above the greatest one
-abbrev pub HasWeightsUpTo : (max_weight : ℕ) → BlockMap → Type 0
-HasWeightsUpTo n m = (b : BlockKey) (voxels : List Voxel) → get m b ≡ Some voxels → All (λ v. v.w ≤ n) voxels
+pub record IsInReach (s : ℤ) (b : BlockKey) : Type 0 where
+  pub x : IsWithin (pos 1073741824) (pos 8 *ℤ s *ℤ b.x)
+  pub y : IsWithin (pos 1073741824) (pos 8 *ℤ s *ℤ b.y)
+  pub z : IsWithin (pos 1073741824) (pos 8 *ℤ s *ℤ b.z)
 
--- 8 voxels of size s times each coordinate of a known key is within 2^30 either way
-abbrev pub HasNearKeys : (s : ℤ) → BlockMap → Type 0
-HasNearKeys s m = (b : BlockKey) → IsTrue (contains_key m b) → AreWithin (pos (2 ^ 30)) (vec (pos 8 *ℤ s *ℤ b.x) (pos 8 *ℤ s *ℤ b.y) (pos 8 *ℤ s *ℤ b.z))
+-- each voxel of a map weighs at most n
+abbrev pub HasMapWeightsWithin : (n : ℕ) → BlockMap → Type 0
+HasMapWeightsWithin n m = (b : BlockKey) (voxels : List Voxel) → get m b ≡ Some voxels → HasWeightsWithin n voxels
+
+-- 8 s times each coordinate of a known key is at most 2^30 either way
+abbrev pub HasKeysInReach : (s : ℤ) → BlockMap → Type 0
+HasKeysInReach s m = (b : BlockKey) → IsTrue (contains_key m b) → IsInReach s b
 
 -- what holds of the state after any number of frames
 pub record IsSound (c : Settings) (s : State) : Type 0 where
   -- each block has 512 voxels
   pub whole : HasWholeBlocks s.blocks
-  pub weights : HasWeightsUpTo c.max_weight s.blocks
-  pub near : HasNearKeys c.camera.voxel s.blocks
+  pub weights : HasMapWeightsWithin c.max_weight s.blocks
+  pub reach : HasKeysInReach c.camera.voxel s.blocks
   -- before the first frame the map is empty, and no frame was counted
   pub empty : s.last ≡ None → s.blocks ≡ empty
   pub frames : (s.frames ≡ 0) ↔ (s.last ≡ None)

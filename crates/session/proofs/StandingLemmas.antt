@@ -70,7 +70,7 @@ stands h s =
       empty = s.sound.empty;
       frames = s.sound.frames;
       weights = s.sound.weights;
-      near = s.sound.near;
+      reach = s.sound.reach;
     }
 
 -- ---- what the type keeps

@@ -10,7 +10,7 @@ use Rattle.spatial_hash.specs.Contents.{contents}
 use Rattle.spatial_hash.specs.Table.{Table}
 use Rattle.block_places.specs.Owners.{owner_at}
 use Rattle.block_places.specs.Places.{Places, IsPlaced, blocks_of, cell_of}
-use Rattle.fusion_core.specs.Laws.{HasNearKeys, HasWeightsUpTo, IsSound}
+use Rattle.fusion_core.specs.Laws.{HasKeysInReach, HasMapWeightsWithin, IsSound}
 use Rattle.scan_lang.specs.Config.{Config}
 use Rattle.session.specs.Answers.{Held, state_of}
 use Rattle.session.specs.Fold.{settings_of}
@@ -58,9 +58,9 @@ pub record Stands (h : Held) : Type 0 where
   pub empty : h.last ≡ None → blocks_of h.places ≡ empty
   pub frames : (h.frames ≡ 0) ↔ (h.last ≡ None)
   -- no weight of the map is above the greatest one
-  pub weights : HasWeightsUpTo h.config.max_weight (blocks_of h.places)
-  -- 8 voxels times each coordinate of a known key is within 2^30 either way
-  pub near : HasNearKeys h.config.camera.voxel (blocks_of h.places)
+  pub weights : HasMapWeightsWithin h.config.max_weight (blocks_of h.places)
+  -- 8 voxels times each coordinate of a known key is at most 2^30 either way
+  pub reach : HasKeysInReach h.config.camera.voxel (blocks_of h.places)
 
 -- what the session's type keeps, of which the rest follows
 pub record IsSettled (h : Held) : Type 0 where

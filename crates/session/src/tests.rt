@@ -3,6 +3,7 @@ use depth_frame::DepthFrame;
 use fixed_geom::{BadPose, PoseRows, Vec3};
 use scan_lang::{FrameDone, Totals, read_config};
 use std::alloc::Global;
+use std::test::Fail;
 
 const ONE: i64 = 1 << 30;
 
@@ -191,4 +192,31 @@ fn weights_stop_at_the_greatest(rt: HostRuntime) {
             })
         );
     }
+}
+
+#[test]
+fn errors_are_told_in_words(rt: HostRuntime) -> Result<(), Fail> {
+    let size = FrameError::Size {
+        width: 2,
+        height: 1,
+    };
+    for (error, text) in [
+        (size, "the depth map has 2 by 1 pixels"),
+        (
+            FrameError::BadPose(BadPose::Range),
+            "the pose passes its bounds",
+        ),
+        (
+            FrameError::BadPose(BadPose::NotRotation),
+            "the pose has no rotation",
+        ),
+        (
+            FrameError::HeapSpent { limit: 4 },
+            "more than 4 blocks would be active",
+        ),
+        (FrameError::NoMemory, "out of memory"),
+    ] {
+        assert_eq!(rt; format!(in rt.alloc(); "{error}")?.as_str(), text);
+    }
+    Ok(())
 }
