@@ -43,6 +43,10 @@ module _ (c : Settings) (rows : PoseRows) (depths : DepthMap) where
   unfolding offered
   offered_pose why e p = λ i. cond (e i) (posed c depths (p i)) (Err (Size depths.width depths.height))
 
+  pub offered_ok : (pose : Pose) → has_size c.camera depths ≡ true → accepted (pose_of rows) ≡ Ok pose → offered c rows depths ≡ Ok (frame_of c pose depths)
+  unfolding offered
+  offered_ok pose e p = λ i. cond (e i) (posed c depths (p i)) (Err (Size depths.width depths.height))
+
 module _ (c : Settings) (s : State) (rows : PoseRows) (depths : DepthMap) where
   -- a frame that is offered is judged by its room
   judged_by_room : (f : Frame) → offered c rows depths ≡ Ok f → judged c s rows depths ≡ with_room c.heap_blocks s.blocks f
