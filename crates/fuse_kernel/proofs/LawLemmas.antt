@@ -1,5 +1,5 @@
 -- What a frame meets, and what it leaves.
-use Rattle.std.proofs.Common.{◌≡◌, ℕ, ◌<◌, refl, sym, ◌∙◌, ap, subst, arith, List, length}
+use Rattle.std.proofs.Common.{◌≡◌, ℕ, ◌<◌, ◌≤◌, refl, sym, ◌∙◌, ap, subst, arith, List, length}
 use Rattle.std.specs.Prelude.{ℤ, pos, neg_ℤ, ◌+ℤ◌, ◌-ℤ◌, ◌*ℤ◌, ◌==◌, ◌≤ℤ◌, Bool, true, false, IsTrue, int_le, cond, Option, Some, None, option_and_then}
 use Rattle.std.proofs.lemmas.Int.{ints}
 use Rattle.std.proofs.lemmas.Option.{slice_get_within}
@@ -7,7 +7,7 @@ use Rattle.fixed_geom.specs.declared.vector.Vec3.{Vec3}
 use Rattle.fixed_geom.specs.Poses.{cam}
 use Rattle.voxel_block.specs.declared.key.BlockKey.{BlockKey}
 use Rattle.voxel_block.specs.declared.voxel.Voxel.{Voxel}
-use Rattle.voxel_block.proofs.Blocks.{by_index-unchanged}
+use Rattle.voxel_block.proofs.Blocks.{All-by_index, by_index-unchanged}
 use Rattle.camera.specs.declared.camera.CameraFields.{CameraFields}
 use Rattle.camera.specs.Cameras.{depth_of, is_active, project, valid_depth, within}
 use Rattle.camera.specs.Grid.{point_of}
@@ -18,7 +18,7 @@ use Rattle.camera.proofs.RangeLemmas.{at_most, between}
 use Rattle.camera.proofs.Seen.{unseen_meets_none}
 use Rattle.depth_frame.specs.DepthMaps.{sample_at}
 use Rattle.depth_view.specs.Views.{View, IsView, depth_at}
-use Rattle.fuse_kernel.specs.Updates.{Meets, averaged, depth_behind, seen, update, updated}
+use Rattle.fuse_kernel.specs.Updates.{HasWeightsWithin, Meets, averaged, depth_behind, seen, update, updated}
 use Rattle.fuse_kernel.proofs.UpdateLemmas.{le_tells}
 
 -- a voxel that a frame meets is averaged
@@ -92,3 +92,20 @@ unseen_stays w n b voxels o long unseen = none_met_stays w n b voxels long (λ i
 
 pub inactive_stays : (w : View) (n : ℕ) (b : BlockKey) (voxels : List Voxel) → IsView w → length voxels ≡ 512 → is_active w.camera w.pose b ≡ false → updated w n b voxels ≡ voxels
 inactive_stays w n b voxels o long inactive = none_met_stays w n b voxels long (λ i below. inactive_is_not_met w b i o below inactive)
+
+-- ---- weights
+
+-- a voxel that weighs at most n does so after an update
+update_bounded : (w : View) (n : ℕ) (p : Vec3) (x : Voxel) → x.w ≤ n → (update w n p x).w ≤ n
+update_bounded w n p x h = by_depth (depth_behind w (cam w.pose p))
+  where
+    by_test : (b : Bool) (eta : ℤ) → (cond b (averaged w.camera.mu n eta x) x).w ≤ n
+    by_test true eta = omega arith
+    by_test false eta = h
+
+    by_depth : (o : Option ℤ) → (seen w.camera.mu n (cam w.pose p).z x o).w ≤ n
+    by_depth None = h
+    by_depth (Some d) = by_test (int_le (neg_ℤ w.camera.mu) (d -ℤ (cam w.pose p).z)) (d -ℤ (cam w.pose p).z)
+
+pub weights_stay_bounded : (w : View) (n : ℕ) (b : BlockKey) (voxels : List Voxel) → HasWeightsWithin n voxels → HasWeightsWithin n (updated w n b voxels)
+weights_stay_bounded w n b voxels all = All-by_index (λ i x. update w n (point_of w.camera.voxel b i) x) (λ x. x.w ≤ n) (λ i x h. update_bounded w n (point_of w.camera.voxel b i) x h) voxels all

@@ -8,7 +8,7 @@ use Rattle.camera.specs.Cameras.{is_active}
 use Rattle.camera.specs.Grid.{point_of}
 use Rattle.camera.specs.Visibility.{may_be_seen}
 use Rattle.depth_view.specs.Views.{View, IsView}
-use Rattle.fuse_kernel.specs.Updates.{Meets, averaged, update, updated}
+use Rattle.fuse_kernel.specs.Updates.{HasWeightsWithin, Meets, averaged, update, updated}
 
 -- a voxel that a frame meets is averaged
 abbrev pub MetIsAveraged : Type 0
@@ -33,3 +33,7 @@ UnseenStays = (w : View) (n : ℕ) (b : BlockKey) (voxels : List Voxel) → IsVi
 -- and one that is not active
 abbrev pub InactiveStays : Type 0
 InactiveStays = (w : View) (n : ℕ) (b : BlockKey) (voxels : List Voxel) → IsView w → length voxels ≡ 512 → is_active w.camera w.pose b ≡ false → updated w n b voxels ≡ voxels
+
+-- where no voxel of a block weighs more than the greatest weight, none does after an update
+abbrev pub WeightsStayBounded : Type 0
+WeightsStayBounded = (w : View) (n : ℕ) (b : BlockKey) (voxels : List Voxel) → HasWeightsWithin n voxels → HasWeightsWithin n (updated w n b voxels)

@@ -1,5 +1,5 @@
 -- The update of a voxel by a frame: a running average of signed distances, after Curless and Levoy 1996; the rounding is this project's own.
-use Rattle.std.specs.Prelude.{◌≡◌, ℕ, ◌+◌, min, ℤ, pos, neg_ℤ, ◌+ℤ◌, ◌-ℤ◌, ◌*ℤ◌, ◌≤ℤ◌, int_le, Option, None, Some, option_and_then, if◌then◌else◌, List}
+use Rattle.std.specs.Prelude.{◌≡◌, ℕ, ◌+◌, ◌≤◌, min, ℤ, pos, neg_ℤ, ◌+ℤ◌, ◌-ℤ◌, ◌*ℤ◌, ◌≤ℤ◌, int_le, Option, None, Some, option_and_then, if◌then◌else◌, List, All}
 use Rattle.std.specs.Int.{int_min}
 use Rattle.fixed_geom.specs.Division.{floor_div, round_div}
 use Rattle.fixed_geom.specs.declared.vector.Vec3.{Vec3}
@@ -45,3 +45,7 @@ pub record Meets (w : View) (p : Vec3) : Type 0 where
   pub d : ℤ
   pub depth : depth_behind w (cam w.pose p) ≡ Some d
   pub near : (neg_ℤ w.camera.mu) ≤ℤ (d -ℤ (cam w.pose p).z)
+
+-- each of the voxels weighs at most n
+abbrev pub HasWeightsWithin : (n : ℕ) → List Voxel → Type 0
+HasWeightsWithin n voxels = All (λ x. x.w ≤ n) voxels

@@ -1,4 +1,4 @@
-ghost use Rattle.fuse_kernel.specs.Laws.{InactiveStays, MetIsActive, MetIsAveraged, UnmetStays, UnseenIsNotMet, UnseenStays};
+ghost use Rattle.fuse_kernel.specs.Laws.{InactiveStays, MetIsActive, MetIsAveraged, UnmetStays, UnseenIsNotMet, UnseenStays, WeightsStayBounded};
 
 /// A voxel that a frame meets becomes the mean of what it was and what the frame measures, and weighs one more. The
 /// body is empty: the clause is the theorem.
@@ -29,4 +29,9 @@ pub fn unseen_stays()
 /// The update leaves a block as it is that is not active.
 pub fn inactive_stays()
     ensures { InactiveStays }
+{}
+
+/// Where no voxel of a block weighs more than the greatest weight, none does after an update.
+pub fn weights_stay_bounded()
+    ensures { WeightsStayBounded }
 {}
