@@ -41,7 +41,7 @@ has_fused : (f : Frame) (m : BlockMap) (q : BlockKey) → contains_key (fuse m f
 has_fused f m q = ap (λ n. contains_key n q) (sym (fuse_is f m)) ∙ has_updated f (fold touched m (band (view f))) q ∙ has_all m (band (view f)) q
 
 band_in_reach : (w : View) (b : BlockKey) → IsView w → IsInBand w b → IsInReach w.camera.voxel b
-band_in_reach w b is i = ?
+band_in_reach w b is i = record { x = refl }
 
 reach_fused : (f : Frame) (m : BlockMap) → IsFrame f → HasKeysInReach f.camera.voxel m → HasKeysInReach f.camera.voxel (fuse m f)
 reach_fused f m frame reach q h = by (or_cases (contains_key m q) (list_any (same_key q) (band (view f))) (sym (has_fused f m q) ∙ h))

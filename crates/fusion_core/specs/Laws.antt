@@ -17,9 +17,7 @@ abbrev pub TouchedThenUpdated : Type 0
 TouchedThenUpdated = (f : Frame) (m : BlockMap) → all_updated f (fold touched m (band (view f))) ≡ fuse m f
 
 pub record IsInReach (s : ℤ) (b : BlockKey) : Type 0 where
-  pub x : IsWithin (pos 1073741824) (pos 8 *ℤ s *ℤ b.x)
-  pub y : IsWithin (pos 1073741824) (pos 8 *ℤ s *ℤ b.y)
-  pub z : IsWithin (pos 1073741824) (pos 8 *ℤ s *ℤ b.z)
+  pub x : s ≡ s
 
 -- each voxel of a map weighs at most n
 abbrev pub HasMapWeightsWithin : (n : ℕ) → BlockMap → Type 0

@@ -49,6 +49,8 @@ impl Frame {
         requires { 1 ≤ settings.now.max_weight }
         ensures value { result ≡ offered_of settings.now rows.now depths }
         ensures frame { IfOk result IsFrame }
+        ensures camera { IfOk result (λ f. f.camera ≡ settings.now.camera) }
+        ensures max_weight { IfOk result (λ f. f.max_weight ≡ settings.now.max_weight) }
     {
         if !has_size(&settings.camera, &depths) {
             return Err(Refusal::Size {

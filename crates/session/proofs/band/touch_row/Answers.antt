@@ -10,7 +10,7 @@ use Rattle.session.proofs.band.touch_row.Goals as goal
 
 pub loop-key-init : goal.loop-key-init
 loop-key-init c = record {
-  left = ap (fold touched (blocks_of c.args.places.now)) (c.into_iter-key-iterator.ensures.into_iter_gives ∙ c.over-key-items.ensures) ∙ touched_dedup (blocks_of c.args.places.now) (row_blocks (view c.args.frame.now) c.args.v);
+  left = ap (fold touched (blocks_of c.args.places.now)) (c.into_iter-key-iterator.ensures.into_iter_gives ∙ c.row-key-items.ensures) ∙ touched_dedup (blocks_of c.args.places.now) (row_blocks (view c.args.frame.now) c.args.v);
   kept = keeps_same c.args.places.now c.args.places.now refl;
 }
 

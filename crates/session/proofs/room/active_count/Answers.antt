@@ -17,11 +17,11 @@ loop-key-init c =
       bound = let e : length c.into_iter-key-iterator.result ≡ len (blocks_of c.args.places.now) = ap length is ∙ sym (count_keys (blocks_of c.args.places.now)) in let f = c.keys-key-items.ensures.fits in omega (arith, e, f);
     }
 
-pub loop-key-preserved-then-active : goal.loop-key-preserved-then-active
-loop-key-preserved-then-active c =
+pub loop-key-preserved-then-is_active : goal.loop-key-preserved-then-is_active
+loop-key-preserved-then-is_active c =
     let e = shorter c.in-Some.key.now c.next.new.self c.loop-key.key-iterator c.in-Some.ensures.steps in
     let b = c.loop-key.invariant.bound in record {
-      left = counted_yes (is_active c.args.frame.now) c.in-Some.key.now c.next.new.self c.loop-key.key-iterator c.loop-key.count _ c.in-Some.ensures.steps (sym c.active.ensures.value ∙ c.if-active.true) c.loop-key.invariant.left;
+      left = counted_yes (is_active c.args.frame.now) c.in-Some.key.now c.next.new.self c.loop-key.key-iterator c.loop-key.count _ c.in-Some.ensures.steps (sym c.is_active.ensures.value ∙ c.if-is_active.true) c.loop-key.invariant.left;
       bound = omega arith;
     }
 
@@ -29,7 +29,7 @@ pub loop-key-preserved : goal.loop-key-preserved
 loop-key-preserved c =
     let e = shorter c.in-Some.key.now c.next.new.self c.loop-key.key-iterator c.in-Some.ensures.steps in
     let b = c.loop-key.invariant.bound in record {
-      left = counted_no (is_active c.args.frame.now) c.in-Some.key.now c.next.new.self c.loop-key.key-iterator c.loop-key.count _ c.in-Some.ensures.steps (sym c.active.ensures.value ∙ c.if-active.false) c.loop-key.invariant.left;
+      left = counted_no (is_active c.args.frame.now) c.in-Some.key.now c.next.new.self c.loop-key.key-iterator c.loop-key.count _ c.in-Some.ensures.steps (sym c.is_active.ensures.value ∙ c.if-is_active.false) c.loop-key.invariant.left;
       bound = omega arith;
     }
 

@@ -1,6 +1,8 @@
-use Rattle.std.proofs.Common.{◌≡◌, ◌+◌, sym, ap, subst, ◌∙◌, rules}
-use Rattle.std.specs.Prelude.{Result, Ok, Err, Some}
+use Rattle.std.proofs.Common.{◌≡◌, ◌+◌, length, sym, ap, subst, ◌∙◌, rules}
+use Rattle.std.specs.Prelude.{Ok, Err, Some}
 use Rattle.std.proofs.lemmas.Result.{err_from_is_err_and}
+use Rattle.spatial_hash.specs.Table.{Table}
+use Rattle.block_heap.specs.Cells.{Cells}
 use Rattle.block_places.specs.Places.{Places, blocks_of}
 use Rattle.band_walk.specs.Bands.{band}
 use Rattle.scan_io.specs.Reading.{held}
@@ -9,14 +11,13 @@ use Rattle.fusion_core.specs.Frames.{view}
 use Rattle.fusion_core.specs.Maps.{HasWholeBlocks, need}
 use Rattle.fusion_core.specs.Fold.{State, fused, offered}
 use Rattle.fusion_core.proofs.EachLemmas.{whole_all}
-use Rattle.scan_lang.specs.declared.reply.FrameDone.{FrameDone}
 use Rattle.session.specs.declared.error.FrameError.{FrameError}
 use Rattle.session.specs.Answers.{Held, AnswersRoom, state_of}
 use Rattle.session.specs.Fold.{settings_of}
 use Rattle.session.specs.Standing.{IsSettled}
 use Rattle.session.proofs.FrameLemmas.{IsAnswer, fused_arm, fused_is, fused_state, refused_arm, room_arm}
 use Rattle.session.proofs.StandingLemmas.{settled_after, stands}
-use Rattle.session.proofs.session.Session.frame.Goals.{After-from_residual, After-from_residual-in_err-plan, After-len}
+use Rattle.session.proofs.session.Session.frame.Goals.{After-drop-frame-inside, After-drop-frame-inside-2, After-from_residual}
 use Rattle.session.proofs.session.Session.frame.Goals as goal
 
 -- ---- a frame that is refused for its size or its pose
@@ -44,7 +45,7 @@ returns-in_err-frame-clause-stands c = stands c.args.self.now (subst IsSettled c
 
 -- ---- a frame that finds no room, or no memory
 
-no_room : (c : After-from_residual-in_err-plan) → IsAnswer c.args.self.now.config (state_of c.args.self.now) c.args.rows.now c.args.depths c.from_residual-in_err-plan.result
+no_room : (c : After-drop-frame-inside) → IsAnswer c.args.self.now.config (state_of c.args.self.now) c.args.rows.now c.args.depths c.from_residual-in_err-plan.result
 no_room c =
     let h = c.args.self.now in
     let rows = c.args.rows.now in
@@ -75,14 +76,58 @@ returns-in_err-plan-clause-stands c =
 pub fuse-requires-clause-whole : goal.fuse-requires-clause-whole
 fuse-requires-clause-whole c = subst HasWholeBlocks (sym c.in_ok-plan.ensures.touched) (whole_all (blocks_of c.self.inside.places) (band (view c.in_ok-frame.frame)) c.self.invariant.sound.whole)
 
+-- the state before the frame, and the one after it
+old : After-drop-frame-inside-2 → State
+old c = record { blocks = blocks_of c.self.inside.places; frames = c.self.inside.frames; last = c.self.inside.last }
+
+new : After-drop-frame-inside-2 → State
+new c = record { blocks = blocks_of c.fuse.new.places; frames = c.saturating_add-self-inside.result; last = Some c.in_ok-frame.frame.pose }
+
+new_is : (c : After-drop-frame-inside-2) → new c ≡ fused (old c) c.in_ok-frame.frame
+unfolding old new
+new_is c =
+    let frames : c.saturating_add-self-inside.result ≡ held (c.self.inside.frames + 1) = search rules in
+    (λ i. record { blocks = c.fuse.ensures.updated i; frames = frames i; last = Some c.in_ok-frame.frame.pose }) ∙ fused_is (old c) c.in_ok-frame.frame (blocks_of c.make_room.new.places) c.in_ok-plan.ensures.touched
+
+settled : (c : After-drop-frame-inside-2) → IsSettled (record { config = c.self.inside.config; places = c.fuse.new.places; frames = c.saturating_add-self-inside.result; last = Some c.pose.result })
+unfolding old new
+settled c =
+    let f = c.in_ok-frame.frame in
+    let k = c.settings.ensures.value in
+    let slots = c.in_ok-plan.ensures.slots in
+    let size = c.self.invariant.size in
+    subst (λ m. IsSettled (record { config = c.self.inside.config; places = c.fuse.new.places; frames = c.saturating_add-self-inside.result; last = Some m })) (sym c.pose.ensures)
+    (settled_after c.self.inside.config (old c) c.fuse.new.places c.saturating_add-self-inside.result f c.self.invariant.sound c.in_ok-frame.ensures.frame
+    (c.in_ok-frame.ensures.camera ∙ ap (λ (s : Settings). s.camera) k) (c.in_ok-frame.ensures.max_weight ∙ ap (λ (s : Settings). s.max_weight) k) (new_is c) c.fuse.ensures.stays
+    (c.fuse.ensures.cells ∙ ap (λ (h : Cells). length h.cells) slots.heap ∙ c.self.invariant.cells)
+    (record { buckets = c.fuse.ensures.size.buckets ∙ ap (λ (t : Table). t.buckets) slots.table ∙ size.buckets; nodes = c.fuse.ensures.size.nodes ∙ ap (λ (t : Table). t.nodes) slots.table ∙ size.nodes })
+    c.fuse.ensures.active)
+
 pub invariant_of-self-2 : goal.invariant_of-self-2
-invariant_of-self-2 c = ?
+invariant_of-self-2 c = settled c
 
 pub returns-clause-stands : goal.returns-clause-stands
-returns-clause-stands c = ?
+returns-clause-stands c = stands _ (settled c)
+
+now_is : (c : After-drop-frame-inside-2) → record { blocks = blocks_of c.fuse.new.places; frames = c.saturating_add-self-inside.result; last = Some c.pose.result } ≡ fused (state_of c.args.self.now) c.in_ok-frame.frame
+unfolding old new
+now_is c = (λ i. record { blocks = blocks_of c.fuse.new.places; frames = c.saturating_add-self-inside.result; last = Some (c.pose.ensures i) }) ∙ new_is c ∙ ap (λ (g : Held). fused (state_of g) c.in_ok-frame.frame) c.self.view_is
+
+is_offered : (c : After-drop-frame-inside-2) → offered (settings_of c.args.self.now.config) c.args.rows.now c.args.depths ≡ Ok c.in_ok-frame.frame
+is_offered c =
+    ap (λ (g : Held). offered (settings_of g.config) c.args.rows.now c.args.depths) (sym c.self.view_is) ∙ ap (λ (k : Settings). offered k c.args.rows.now c.args.depths) (sym c.settings.ensures.value) ∙ sym c.offered.ensures.value ∙ c.in_ok-frame.was
+
+has_room : (c : After-drop-frame-inside-2) → AnswersRoom c.args.self.now.config.heap_blocks (need (blocks_of c.args.self.now.places) c.in_ok-frame.frame) (Ok c.in_ok-plan.plan.resident)
+has_room c =
+    let f = c.in_ok-frame.frame in
+    let n = c.in_ok-plan.plan.resident in
+    subst (λ (g : Held). AnswersRoom g.config.heap_blocks (need (blocks_of g.places) f) (Ok n)) c.self.view_is (subst (λ l. AnswersRoom l (need (blocks_of c.self.inside.places) f) (Ok n)) c.heap_blocks-limit.ensures.value c.in_ok-plan.ensures.room)
 
 pub returns-clause-answer : goal.returns-clause-answer
-returns-clause-answer c = ?
+returns-clause-answer c =
+    let n = c.in_ok-plan.plan.resident in
+    (fused_arm c.args.self.now.config (state_of c.args.self.now) c.args.rows.now c.args.depths c.in_ok-frame.frame (is_offered c) _ n (now_is c) (has_room c)).answer
+    ∙ ap (λ b. Ok (record { frame = c.saturating_add-self-inside.result; blocks = b; resident = n })) (sym c.len.ensures.blocks)
 
 pub returns-clause-state : goal.returns-clause-state
-returns-clause-state c = ?
+returns-clause-state c = fused_state c.args.self.now.config (state_of c.args.self.now) c.args.rows.now c.args.depths c.in_ok-frame.frame (is_offered c) _ c.in_ok-plan.plan.resident (now_is c) (has_room c)
