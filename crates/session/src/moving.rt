@@ -43,7 +43,7 @@ fn leave_all(places: &mut Places, frame: &Frame, keys: &[BlockKey], spares: &mut
 
 /// Brings a block to its slot, where it is not active for the frame.
 fn leave_one(places: &mut Places, frame: &Frame, key: BlockKey, spares: &mut Vec<Block>)
-    requires spares { IsTrue (leaves_by frame.now places.old key) → 0 < length spares.old.items }
+    requires { IsTrue (leaves_by frame.now places.old key) → 0 < length spares.old.items }
     ensures moved { Moves places.old places.new }
     ensures spares { length spares.new.items + (if leaves_by frame.now places.old key then 1 else 0) ≡ length spares.old.items }
     ensures left { (b : Key) → contains_key (contents places.new.table) b ≡ (contains_key (contents places.old.table) b && not (same_key b key && not (is_active frame.now key))) }

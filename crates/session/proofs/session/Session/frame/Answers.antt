@@ -123,11 +123,21 @@ has_room c =
     let n = c.in_ok-plan.plan.resident in
     subst (λ (g : Held). AnswersRoom g.config.heap_blocks (need (blocks_of g.places) f) (Ok n)) c.self.view_is (subst (λ l. AnswersRoom l (need (blocks_of c.self.inside.places) f) (Ok n)) c.heap_blocks-limit.ensures.value c.in_ok-plan.ensures.room)
 
-pub returns-clause-answer : goal.returns-clause-answer
-returns-clause-answer c =
+answers : (c : After-drop-frame-inside-2) → IsAnswer c.args.self.now.config (state_of c.args.self.now) c.args.rows.now c.args.depths (Ok (record { frame = c.saturating_add-self-inside.result; blocks = c.len.result; resident = c.in_ok-plan.plan.resident }))
+answers c =
+    let h = c.args.self.now in
     let n = c.in_ok-plan.plan.resident in
-    (fused_arm c.args.self.now.config (state_of c.args.self.now) c.args.rows.now c.args.depths c.in_ok-frame.frame (is_offered c) _ n (now_is c) (has_room c)).answer
-    ∙ ap (λ b. Ok (record { frame = c.saturating_add-self-inside.result; blocks = b; resident = n })) (sym c.len.ensures.blocks)
+    subst (λ b. IsAnswer h.config (state_of h) c.args.rows.now c.args.depths (Ok (record { frame = c.saturating_add-self-inside.result; blocks = b; resident = n }))) (sym c.len.ensures.blocks)
+    (fused_arm h.config (state_of h) c.args.rows.now c.args.depths c.in_ok-frame.frame (is_offered c) _ n (now_is c) (has_room c))
+
+pub returns-clause-answer : goal.returns-clause-answer
+returns-clause-answer c = (answers c).answer
+
+pub returns-clause-size : goal.returns-clause-size
+returns-clause-size c = (answers c).size
+
+pub returns-clause-pose : goal.returns-clause-pose
+returns-clause-pose c = (answers c).pose
 
 pub returns-clause-state : goal.returns-clause-state
 returns-clause-state c = fused_state c.args.self.now.config (state_of c.args.self.now) c.args.rows.now c.args.depths c.in_ok-frame.frame (is_offered c) _ c.in_ok-plan.plan.resident (now_is c) (has_room c)
