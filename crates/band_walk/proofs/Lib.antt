@@ -1,5 +1,4 @@
 pub mod BandSet
-mod FloorLemmas
 mod Keys
 mod Machine
 mod SampleLemmas

@@ -18,17 +18,17 @@ MetIsAveraged = (w : View) (n : ℕ) (p : Vec3) (x : Voxel) → (m : Meets w p) 
 abbrev pub UnmetStays : Type 0
 UnmetStays = (w : View) (n : ℕ) (p : Vec3) (x : Voxel) → ¬ Meets w p → update w n p x ≡ x
 
--- a frame meets no voxel of a block that may not be seen
-abbrev pub UnseenIsNotMet : Type 0
-UnseenIsNotMet = (w : View) (b : BlockKey) (i : ℕ) → IsView w → i < 512 → may_be_seen w.camera w.pose b ≡ false → ¬ Meets w (point_of w.camera.voxel b i)
+-- a frame meets no voxel of a block that is not visible
+abbrev pub InvisibleIsNotMet : Type 0
+InvisibleIsNotMet = (w : View) (b : BlockKey) (i : ℕ) → IsView w → i < 512 → may_be_seen w.camera w.pose b ≡ false → ¬ Meets w (point_of w.camera.voxel b i)
 
 -- a block is active if the frame meets a voxel of it
 abbrev pub MetIsActive : Type 0
 MetIsActive = (w : View) (b : BlockKey) (i : ℕ) → IsView w → i < 512 → Meets w (point_of w.camera.voxel b i) → IsTrue (is_active w.camera w.pose b)
 
--- so the update leaves a block as it is that may not be seen
-abbrev pub UnseenStays : Type 0
-UnseenStays = (w : View) (n : ℕ) (b : BlockKey) (voxels : List Voxel) → IsView w → length voxels ≡ 512 → may_be_seen w.camera w.pose b ≡ false → updated w n b voxels ≡ voxels
+-- so the update leaves a block that is not visible as it is
+abbrev pub InvisibleStays : Type 0
+InvisibleStays = (w : View) (n : ℕ) (b : BlockKey) (voxels : List Voxel) → IsView w → length voxels ≡ 512 → may_be_seen w.camera w.pose b ≡ false → updated w n b voxels ≡ voxels
 
 -- and one that is not active
 abbrev pub InactiveStays : Type 0

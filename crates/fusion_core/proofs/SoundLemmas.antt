@@ -11,18 +11,18 @@ use Rattle.voxel_block.specs.declared.key.BlockKey.{BlockKey}
 use Rattle.voxel_block.specs.Keys.{key_cmp}
 use Rattle.voxel_block.specs.Blocks.{new_block}
 use Rattle.voxel_block.specs.Voxels.{new_voxel}
-use Rattle.depth_view.specs.Views.{View, IsView}
 use Rattle.camera.specs.declared.camera.CameraFields.{CameraFields}
 use Rattle.scan_io.specs.Reading.{held}
-use Rattle.band_walk.specs.Bands.{IsInBand, band}
-use Rattle.band_walk.proofs.BandSet.{from_band}
+use Rattle.camera.specs.Visibility.{IsInReach}
+use Rattle.band_walk.specs.Bands.{band}
+use Rattle.band_walk.proofs.BandSet.{band_block_is_active, from_band}
 use Rattle.fuse_kernel.specs.Updates.{HasWeightsWithin}
 use Rattle.fuse_kernel.proofs.LawLemmas.{weights_stay_bounded}
 use Rattle.fusion_core.specs.declared.settings.Settings.{Settings}
 use Rattle.fusion_core.specs.Frames.{Frame, IsFrame, view}
 use Rattle.fusion_core.specs.Maps.{BlockMap, fuse, touched}
 use Rattle.fusion_core.specs.Fold.{State, start, fused}
-use Rattle.fusion_core.specs.Laws.{HasKeysInReach, HasMapWeightsWithin, IsInReach, IsSound}
+use Rattle.fusion_core.specs.Laws.{HasKeysInReach, HasMapWeightsWithin, IsSound}
 use Rattle.fusion_core.proofs.EachLemmas.{each_empty, each_fused, whole_fused}
 use Rattle.fusion_core.proofs.FuseLemmas.{fuse_is}
 use Rattle.fusion_core.proofs.MapLemmas.{same_key, same_key_is}
@@ -40,15 +40,12 @@ new_weights n = All-replicate (λ x. x.w ≤ n) 512 new_voxel (omega arith)
 has_fused : (f : Frame) (m : BlockMap) (q : BlockKey) → contains_key (fuse m f) q ≡ (contains_key m q || list_any (same_key q) (band (view f)))
 has_fused f m q = ap (λ n. contains_key n q) (sym (fuse_is f m)) ∙ has_updated f (fold touched m (band (view f))) q ∙ has_all m (band (view f)) q
 
-band_in_reach : (w : View) (b : BlockKey) → IsView w → IsInBand w b → IsInReach w.camera.voxel b
-band_in_reach w b is i = record { x = refl }
-
 reach_fused : (f : Frame) (m : BlockMap) → IsFrame f → HasKeysInReach f.camera.voxel m → HasKeysInReach f.camera.voxel (fuse m f)
 reach_fused f m frame reach q h = by (or_cases (contains_key m q) (list_any (same_key q) (band (view f))) (sym (has_fused f m q) ∙ h))
   where
     by : (contains_key m q ≡ true) ⊎ (list_any (same_key q) (band (view f)) ≡ true) → IsInReach f.camera.voxel q
     by (inl known) = reach q known
-    by (inr banded) = band_in_reach (view f) q frame.shown (from_band (view f) q (Contains-from_any same_key_is q (band (view f)) banded))
+    by (inr banded) = (band_block_is_active (view f) q frame.shown (from_band (view f) q (Contains-from_any same_key_is q (band (view f)) banded))).3
 
 -- ---- the state
 

@@ -1,10 +1,10 @@
 -- What is proved of every frame and of every map.
-use Rattle.std.specs.Prelude.{◌≡◌, ◌↔◌, ℕ, ℤ, pos, ◌*ℤ◌, IsTrue, List, None, Some}
+use Rattle.std.specs.Prelude.{◌≡◌, ◌↔◌, ℕ, ℤ, IsTrue, List, None, Some}
 use Rattle.std.specs.List.{fold}
 use Rattle.std.specs.FinMap.{empty, get, contains_key}
-use Rattle.fixed_geom.specs.Vectors.{IsWithin}
 use Rattle.voxel_block.specs.declared.key.BlockKey.{BlockKey}
 use Rattle.voxel_block.specs.declared.voxel.Voxel.{Voxel}
+use Rattle.camera.specs.Visibility.{IsInReach}
 use Rattle.fuse_kernel.specs.Updates.{HasWeightsWithin}
 use Rattle.band_walk.specs.Bands.{band}
 use Rattle.fusion_core.specs.declared.settings.Settings.{Settings}
@@ -15,9 +15,6 @@ use Rattle.fusion_core.specs.Fold.{State, fused, start}
 -- to touch the blocks of a frame's band and then to update every block is to fuse the frame
 abbrev pub TouchedThenUpdated : Type 0
 TouchedThenUpdated = (f : Frame) (m : BlockMap) → all_updated f (fold touched m (band (view f))) ≡ fuse m f
-
-pub record IsInReach (s : ℤ) (b : BlockKey) : Type 0 where
-  pub x : s ≡ s
 
 -- each voxel of a map weighs at most n
 abbrev pub HasMapWeightsWithin : (n : ℕ) → BlockMap → Type 0

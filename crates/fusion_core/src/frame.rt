@@ -4,7 +4,7 @@ ghost use Rattle.voxel_block.specs.declared.voxel.Voxel.{Voxel};
 ghost use Rattle.camera.specs.Cameras.{IsCamera};
 ghost use Rattle.fuse_kernel.specs.Updates.{updated};
 ghost use Rattle.band_walk.specs.Bands.{row_keys};
-ghost use Rattle.band_walk.specs.Rest.{rest};
+ghost use Rattle.band_walk.specs.RemainingKeys.{remaining_keys};
 ghost use Rattle.fusion_core.specs.Frames.{IsFrame, is_active as is_active_of, view};
 ghost use Rattle.fusion_core.specs.Fold.{has_size as has_size_of, offered as offered_of};
 
@@ -96,7 +96,7 @@ impl Frame {
     /// just before it.
     pub fn row(&self, v: u32) -> BandWalk<'_>
         requires { v < self.now.depths.height }
-        ensures { rest result ≡ row_keys (view self.now) v }
+        ensures { remaining_keys result ≡ row_keys (view self.now) v }
     {
         BandWalk::over(&self.camera, &self.pose, &self.depths, v)
     }
