@@ -1,6 +1,7 @@
 pub mod Config
+pub mod Entries
 pub mod Lines
-pub mod Places
+pub mod Offsets
 pub mod Readers
 pub mod Replies
 pub mod Scan

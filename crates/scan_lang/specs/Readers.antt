@@ -6,7 +6,7 @@ use Rattle.scan_lang.specs.declared.error.BadScan.{BadScan}
 use Rattle.scan_lang.specs.declared.error.ScanError.{ScanError}
 use Rattle.scan_lang.specs.declared.error.ScanError.TheVariants as errors
 use Rattle.scan_lang.specs.Config.{Config}
-use Rattle.scan_lang.specs.Places.{short}
+use Rattle.scan_lang.specs.Offsets.{short}
 
 abbrev pub scan_cause : ScanError → Cause BadScan
 scan_cause (errors.Bad why) = refused why
@@ -16,12 +16,12 @@ scan_cause errors.NoMemory = no_memory
 abbrev pub scan_errors : Errors ScanError BadScan
 scan_errors = record { cause = scan_cause; ended = short }
 
--- a reader: what its feed keeps, and how many lines may still be read
+-- a reader: what its feed keeps, and the number of lines that may still be read
 pub record Reader : Type 0 where
   pub kept : Kept
   pub left : ℕ
 
--- what is to come behind the configuration; after an error nothing is known of it
+-- what is to come after the configuration; after an error it is what the source has left
 abbrev pub begun : Result (Config × Reader) ScanError → (left : Option (List ℕ)) → Stream
 begun (Ok p) left = stream p.1.kept left
 begun (Err e) left = record { come = left; given = 0 }

@@ -10,7 +10,7 @@ mod reader;
 mod reply;
 mod words;
 
-pub use config::{BadConfig, Config, ConfigError, read_config};
+pub use config::{BadConfig, Config, ConfigError, ConfigFields, read_config};
 pub use entry::Entry;
 pub use error::{BadScan, BadWhat, ScanError};
 pub use reader::ScanReader;

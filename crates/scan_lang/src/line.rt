@@ -3,7 +3,7 @@ ghost use Rattle.scan_io.specs.Causes.{Rose};
 ghost use Rattle.scan_io.specs.Reading.{Reads, stream, byte_at, held};
 ghost use Rattle.scan_lang.specs.Readers.{scan_errors};
 ghost use Rattle.scan_lang.specs.Lines.{first_line};
-ghost use Rattle.scan_lang.specs.Places.{behind, short};
+ghost use Rattle.scan_lang.specs.Offsets.{offset_after, short};
 ghost use Rattle.scan_lang.specs.declared.error.ScanError.TheVariants.{ReadFault};
 
 use crate::error::{BadScan, BadWhat, ScanError};
@@ -14,7 +14,7 @@ use std::alloc::Global;
 pub fn next_byte<S: Source>(feed: &mut Feed, source: &mut S) -> Result<u8, ScanError>
     ensures byte { Reads scan_errors (λ b. b) (byte_at short feed.old.given) (stream feed.old (S.left source.old))
         (stream feed.new (S.left source.new)) (S.left source.new) result }
-    ensures place { OnOk result (feed.new.given ≡ held (feed.old.given + 1)) }
+    ensures offset { OnOk result (feed.new.given ≡ held (feed.old.given + 1)) }
     ensures later { S.faults source.old ≤ S.faults source.new }
     ensures fault { IsErrOf result ReadFault → Rose (S.faults source.old) (S.faults source.new) }
 {
@@ -38,7 +38,7 @@ pub fn read_line<S: Source>(
     ensures line { Reads scan_errors (λ v. v.items) (first_line limit feed.old.given) (stream feed.old (S.left source.old))
         (stream feed.new (S.left source.new)) (S.left source.new) result }
     ensures size { IfOk result (λ v. vec_len v ≤ limit) }
-    ensures place { IfOk result (λ v. feed.new.given ≡ behind feed.old.given (length v.items + 1)) }
+    ensures offset { IfOk result (λ v. feed.new.given ≡ offset_after feed.old.given (length v.items + 1)) }
     ensures later { S.faults source.old ≤ S.faults source.new }
     ensures fault { IsErrOf result ReadFault → Rose (S.faults source.old) (S.faults source.new) }
 {
