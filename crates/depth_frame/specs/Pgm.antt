@@ -1,5 +1,5 @@
 -- What a byte text is as the file of a depth map: a binary PGM (Netpbm), with limits and places of refusal of this project's own.
-use Rattle.std.specs.Prelude.{◌≡◌, ◌≤◌, ℕ, zero, suc, ◌+◌, ◌-◌, ◌*◌, ◌==◌, nat_le, ◌&&◌, ◌||◌, not, Bool, if◌then◌else◌, List, [], ◌∷◌, ◌++◌, codes, Result, Ok, Err}
+use Rattle.std.specs.Prelude.{◌≡◌, ◌≢◌, ◌<◌, ◌≤◌, ℕ, zero, suc, ◌+◌, ◌-◌, ◌*◌, ◌==◌, nat_le, ◌&&◌, ◌||◌, not, Bool, if◌then◌else◌, List, [], ◌∷◌, ◌++◌, length, codes, Result, Ok, Err}
 use Rattle.std.specs.Char.{is_ascii_digit}
 use Rattle.std.specs.Fmt.{decimal}
 use Rattle.std.specs.Int.{to_be_bytes, w16}
@@ -195,3 +195,21 @@ pgm_text p = header_bytes p.width p.height ++ flat_map (to_be_bytes w16) p.raw
 -- behind any number of bytes, and whatever follows, the bytes are the file of that depth map
 abbrev pub IsReadAgain : DepthMap → List ℕ → Type 0
 IsReadAgain p bytes = (start : ℕ) (rest : List ℕ) → pgm_of start (bytes ++ rest) ≡ Ok (p, rest)
+
+-- ---- texts that are refused
+
+-- a file that ends too early is refused at the end of the text
+abbrev pub ShortIsAtEnd : Type 0
+ShortIsAtEnd = (start : ℕ) (text : List ℕ) (why : BadPgm) → pgm_of start text ≡ Err why → why.kind ≡ Short → why.at ≡ held (start + length text)
+
+-- a file that is cut off before its last byte is refused so
+abbrev pub CutIsShort : Type 0
+CutIsShort = (start : ℕ) (text more rest : List ℕ) (p : DepthMap) → pgm_of start (text ++ more) ≡ Ok (p, rest) → length rest < length more → pgm_of start text ≡ Err (short (held (start + length text)))
+
+-- every other refusal is at a byte of the text
+abbrev pub OthersAreInside : Type 0
+OthersAreInside = (start : ℕ) (text : List ℕ) (why : BadPgm) → pgm_of start text ≡ Err why → why.kind ≢ Short → why.at < start + length text
+
+-- every other refusal stays, whatever follows the text
+abbrev pub OthersStay : Type 0
+OthersStay = (start : ℕ) (text more : List ℕ) (why : BadPgm) → pgm_of start text ≡ Err why → why.kind ≢ Short → pgm_of start (text ++ more) ≡ Err why

@@ -1,6 +1,6 @@
 ghost use Rattle.std.specs.Prelude.{◌≡◌, ◌<◌, ◌≤◌, ◌++◌, ℕ, List, Ok, IsErrOf};
 ghost use Rattle.scan_io.specs.Causes.{Rose};
-ghost use Rattle.depth_frame.specs.Pgm.{pgm_at, pgm_of};
+ghost use Rattle.depth_frame.specs.Pgm.{pgm_at, pgm_of, ShortIsAtEnd, CutIsShort, OthersAreInside, OthersStay};
 ghost use Rattle.depth_frame.specs.Files.{File, FoundFile, IsFile, file_bytes, file_depth_map};
 ghost use Rattle.depth_frame.specs.DepthMaps.{DepthMap};
 ghost use Rattle.depth_frame.specs.Errors.{pgm_errors};
@@ -62,4 +62,18 @@ fn read_file<S: Source>(
 pub fn files_are_read()
     ensures read { (start : ℕ) (f : File) (rest : List ℕ) → IsFile f → pgm_of start (file_bytes f ++ rest) ≡ Ok (file_depth_map f, rest) }
     ensures found { (start : ℕ) (text : List ℕ) (p : DepthMap) (rest : List ℕ) → pgm_of start text ≡ Ok (p, rest) → FoundFile text p rest }
+{}
+
+/// A law: a text that ends inside a file is refused as `Short`, at its end and nowhere else. It does nothing when it is
+/// called.
+pub fn short_is_at_the_end()
+    ensures end { ShortIsAtEnd }
+    ensures cut { CutIsShort }
+{}
+
+/// A law: every refusal but `Short` is at a byte of the text, and stays whatever follows the text. It does nothing when it
+/// is called.
+pub fn other_refusals_stay()
+    ensures inside { OthersAreInside }
+    ensures stays { OthersStay }
 {}
