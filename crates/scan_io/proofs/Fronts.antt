@@ -128,3 +128,12 @@ cut_is_ended {Y = Y} {W = W} text more y rest (whole x last p again) is less =
     absurd (omega (arith, ap length g, length-append last more))
 cut_is_ended text more y rest (bad why other again) is less = let e = again more in absurd cc
 cut_is_ended text more y rest (cut at) is less = at
+
+-- and so does a text that is cut off where the refusal is none of the others
+pub cut_refusal_is_ended : {Y W : Type 0} {Other : W → Type 0} {ended : W} {P : Y → List ℕ → Type 0} {parse : List ℕ → Result (Y × List ℕ) W} (text more : List ℕ) (why : W) → Front Other ended P parse text → parse (text ++ more) ≡ Err why → (Other why → ⊥) → parse text ≡ Err ended
+cut_refusal_is_ended text more why (whole y rest p again) is diff = let e = again more in absurd cc
+cut_refusal_is_ended {Other = Other} text more why (bad why' other again) is diff =
+    let e = again more in
+    let same : why' ≡ why = cc in
+    absurd (diff (rw same at other))
+cut_refusal_is_ended text more why (cut at) is diff = at
