@@ -1,16 +1,13 @@
 -- What the tests of a configuration show.
-use Rattle.std.proofs.Common.{◌≡◌, ℕ, suc, ◌+◌, ◌≤◌, List, [], ◌∷◌, length, Bool, true, false, Some, None, Ok, Err, refl, ap, cond, arith, rules, Fits}
-use Rattle.std.specs.Prelude.{String, ℤ, pos, neg_ℤ, int_le, ◌≤ℤ◌, is_some, unsigned_abs}
+use Rattle.std.proofs.Common.{◌≡◌, ℕ, suc, ◌+◌, ◌≤◌, List, [], ◌∷◌, length, Bool, true, false, Some, None, Ok, Err, refl, ap, cond, arith, rules}
+use Rattle.std.specs.Prelude.{String, ℤ, pos, int_le, ◌≤ℤ◌, is_some, unsigned_abs}
 use Rattle.std.specs.declared.alloc.Global.{Global}
 use Rattle.std.specs.Str.{IsUtf8, is_utf8}
-use Rattle.std.specs.Int.{is_power_of_two}
 use Rattle.std.proofs.lemmas.Int.{ints}
 use Rattle.std.proofs.lemmas.Bool.{and_parts}
 use Rattle.std.proofs.lemmas.Str.{IsUtf8-from_is_utf8, is_utf8-from_IsUtf8}
-use lib.Dec.{T}
-use lib.Signed.{non_neg}
 use mir.Val.{to_z, of_z, SFits}
-use mir.Syntax.{w8, w16, w32, w64}
+use mir.Syntax.{w16, w64}
 use Rattle.serde_json.specs.Data.{Data}
 use Rattle.serde_json.specs.Read.{read}
 use Rattle.serde_json.specs.Find.{as_object}

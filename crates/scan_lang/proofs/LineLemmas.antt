@@ -4,11 +4,13 @@ use Rattle.std.specs.List.{position_or_len}
 use Rattle.std.proofs.lemmas.List.{take_at, drop_at}
 use Rattle.std.proofs.lemmas.Bool.{lt-ltb, le-ltb, le-leb, lt-leb}
 use Rattle.std.proofs.lemmas.Bool.Decides.{nat_tests}
-use Rattle.scan_io.specs.Reading.{byte_at}
+use Rattle.scan_io.specs.Reading.{Came, Reads, Stream, byte_at}
 use Rattle.scan_io.specs.Steps.{◌>>=◌}
+use Rattle.scan_io.proofs.ReadingLemmas.{came_step}
 use Rattle.scan_lang.specs.declared.error.BadScan.{BadScan}
 use Rattle.scan_lang.specs.Offsets.{offset_after, short}
 use Rattle.scan_lang.specs.Lines.{long, line_before, first_line}
+use Rattle.scan_lang.specs.Readers.{scan_errors}
 
 abbrev pub line_len : List ℕ → ℕ
 line_len text = position_or_len (λ b. eqb b 10) text
@@ -52,6 +54,11 @@ line_short limit offset now front plain fits at =
 pub line_split : (limit offset now : ℕ) (front : List ℕ) → IsPlain front → length front ≤ limit → now ≡ offset_after offset (length front) → (t : List ℕ) → line_further limit offset front t ≡ (byte_at short now t >>= λ p. line_next limit offset front p.0 p.1)
 line_split limit offset now front plain fits at [] = line_short limit offset now front plain fits at
 line_split limit offset now front plain fits at (b ∷ t) = ap (first_line limit offset) (sym (append_assoc front (b ∷ []) t))
+
+-- one more byte was read
+pub byte_came : (limit offset now : ℕ) (front : List ℕ) {b : ℕ} {old mid new : Stream} → IsPlain front → length front ≤ limit → now ≡ offset_after offset (length front) → Came (first_line limit offset) (line_further limit offset front) old mid
+    → Reads scan_errors (λ (x : ℕ). x) (byte_at short now) mid new (Ok b) → Came (first_line limit offset) (line_next limit offset front b) old new
+byte_came limit offset now front plain fits at came byte = came_step (line_next limit offset front) came byte (line_split limit offset now front plain fits at)
 
 there : (limit offset n m k : ℕ) (text : List ℕ) → n ≡ k → k < m → k ≤ limit → line_before limit offset text (cond (ltb n m) (Some n) None) ≡ Ok (take k text, drop (k + 1) text)
 there limit offset n m k text is inside fits =

@@ -1,6 +1,6 @@
 -- The words of a line, found one after another, and the numbers that they write.
-use Rattle.std.proofs.Common.{◌≡◌, ℕ, suc, ◌≤◌, ◌<◌, ◌+◌, ◌-◌, ℤ, List, [], ◌∷◌, ◌++◌, length, take, drop, Bool, true, false, not, eqb, ltb, None, Some, Result, Ok, Err, refl, sym, ap, ◌∙◌, cond, append_assoc, length-drop, arith}
-use Rattle.std.proofs.lemmas.List.{append-nil, drop-drop, take_all}
+use Rattle.std.proofs.Common.{◌≡◌, ℕ, suc, ◌≤◌, ◌<◌, ◌+◌, ◌-◌, ℤ, List, [], ◌∷◌, ◌++◌, length, take, drop, Bool, true, false, not, eqb, ltb, None, Some, Result, Ok, refl, sym, ap, ◌∙◌, cond, length-drop, arith}
+use Rattle.std.proofs.lemmas.List.{drop-drop, take_all}
 use Rattle.std.proofs.lemmas.List.Sums.{prefix_len-le-length}
 use Rattle.std.proofs.lemmas.List.Folds.{length-prefix_len}
 use Rattle.std.proofs.lemmas.Bool.Decides.{nat_tests}
@@ -9,7 +9,7 @@ use Rattle.std.specs.Option.{unwrap_or}
 use Rattle.scan_io.specs.Steps.{◌>>=◌}
 use Rattle.scan_lang.specs.declared.error.BadScan.{BadScan}
 use Rattle.scan_lang.specs.declared.words.Span.{Span}
-use Rattle.scan_lang.specs.Words.{is_blank, Word, words_in, number_at, numbers_from}
+use Rattle.scan_lang.specs.Words.{is_blank, Word, words_in}
 use Rattle.scan_lang.specs.Spans.{words_from, words_with}
 
 abbrev pub is_inside : ℕ → Bool

@@ -7,7 +7,7 @@ use Rattle.serde_json.specs.Data.{Data, Members}
 use Rattle.serde_json.specs.Read.{read}
 use Rattle.serde_json.specs.Find.{get, as_number, as_i64, as_object}
 use Rattle.serde_json.specs.Events.{members_len}
-use Rattle.scan_io.specs.Reading.{turned}
+use Rattle.scan_io.specs.Reading.{Cause, refused, no_memory, turned}
 use Rattle.scan_io.specs.Steps.{◌>>=◌}
 use Rattle.camera.specs.declared.camera.CameraFields.{CameraFields}
 use Rattle.scan_lang.specs.declared.config.BadConfig.{BadConfig}
@@ -24,11 +24,10 @@ use Rattle.camera.specs.Opening.{first_failing, camera_of}
 abbrev pub names : List (List ℕ)
 names = codes "version" ∷ codes "width" ∷ codes "height" ∷ codes "fx" ∷ codes "fy" ∷ codes "cx" ∷ codes "cy" ∷ codes "unit" ∷ codes "near" ∷ codes "far" ∷ codes "voxel" ∷ codes "mu" ∷ codes "radius" ∷ codes "centre" ∷ codes "max_weight" ∷ codes "heap_blocks" ∷ codes "buckets" ∷ codes "empty_f" ∷ []
 
--- what a function answered, under a view, is what the definition says, unless memory ran out
-abbrev pub Gives : {X Y : Type 0} → (X → Y) → Result X ConfigError → Result Y BadConfig → Type 0
-Gives view (Ok x) config = config ≡ Ok (view x)
-Gives view (Err errors.NoMemory) config = Unit {0}
-Gives view (Err (errors.Bad bad)) config = config ≡ Err bad
+-- which cause an error is
+abbrev pub config_cause : ConfigError → Cause BadConfig
+config_cause (errors.Bad why) = refused why
+config_cause errors.NoMemory = no_memory
 
 -- ---- the object
 

@@ -1,5 +1,6 @@
 pub mod Config
 pub mod Entries
+pub mod Laws
 pub mod Lines
 pub mod Offsets
 pub mod Readers

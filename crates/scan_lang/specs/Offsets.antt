@@ -1,6 +1,6 @@
 -- Where and why a scan is refused.
 use Rattle.std.specs.Prelude.{ℕ, ◌+◌}
-use Rattle.scan_io.specs.Reading.{held}
+use Rattle.scan_io.specs.Reading.{saturated}
 use Rattle.depth_frame.specs.declared.error.BadPgm.{BadPgm}
 use Rattle.depth_frame.specs.declared.error.PgmKind.{PgmKind}
 use Rattle.depth_frame.specs.declared.error.PgmKind.TheVariants as pgm
@@ -10,7 +10,7 @@ use Rattle.scan_lang.specs.declared.error.BadWhat.TheVariants.{Pgm, Short}
 
 -- the offset n bytes after an offset; an offset saturates at 2^64 - 1
 abbrev pub offset_after : (offset n : ℕ) → ℕ
-offset_after offset n = held (offset + n)
+offset_after offset n = saturated (offset + n)
 
 -- a refusal of this kind at an offset
 abbrev pub fault : BadWhat → (offset : ℕ) → BadScan

@@ -70,18 +70,22 @@ no_record offset = Err (fault Line offset)
 abbrev pub frame_head : (offset : ℕ) → List Word → Result Head BadScan
 frame_head offset ws = if length ws == 12 then (numbers_from offset 0 ws >>= λ ns. Ok (Frame (rows_in ns))) else no_record offset
 
--- every other record is one word
-abbrev pub alone : (offset : ℕ) → Entry → List Word → Result Head BadScan
-alone offset entry ws = if length ws == 0 then Ok (Whole entry) else no_record offset
+-- the record that is one word
+abbrev pub one_word : (word : List ℕ) → Option Entry
+one_word word =
+    if bytes_eq word (codes "voxels") then Some Voxels
+    else if bytes_eq word (codes "sum") then Some Sum
+    else if bytes_eq word (codes "end") then Some End
+    else None
+
+-- no word follows it
+abbrev pub alone : (offset : ℕ) → Option Entry → List Word → Result Head BadScan
+alone offset None ws = no_record offset
+alone offset (Some entry) ws = if length ws == 0 then Ok (Whole entry) else no_record offset
 
 -- by the first word, and those after it
 abbrev pub head_with : (offset : ℕ) → (word : List ℕ) → List Word → Result Head BadScan
-head_with offset word ws =
-    if bytes_eq word (codes "frame") then frame_head offset ws
-    else if bytes_eq word (codes "voxels") then alone offset Voxels ws
-    else if bytes_eq word (codes "sum") then alone offset Sum ws
-    else if bytes_eq word (codes "end") then alone offset End ws
-    else no_record offset
+head_with offset word ws = if bytes_eq word (codes "frame") then frame_head offset ws else alone offset (one_word word) ws
 
 abbrev pub head_in : (offset : ℕ) → List Word → Result (Option Head) BadScan
 head_in offset [] = Ok None

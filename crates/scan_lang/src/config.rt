@@ -1,9 +1,9 @@
 ghost use Rattle.std.specs.Prelude.{◌≡◌, ◌+◌, ◌<◌, pos, Ok, Err, ok_or, is_some, length, unsigned_abs, IfOk};
 ghost use Rattle.serde_json.specs.View.{view};
-ghost use Rattle.scan_io.specs.Reading.{turned};
+ghost use Rattle.scan_io.specs.Reading.{UnlessOutOfMemory, turned};
 ghost use Rattle.camera.specs.Cameras.{within as is_within, IsCamera};
 ghost use Rattle.camera.specs.Opening.{camera_of};
-ghost use Rattle.scan_lang.specs.Config.{Gives, object_of, named, is_named as has_only_names, has_names as has_all_names, integer_at, camera_fields_of, fields_of, passed, version_tests, limit_tests, made, checked, bad_camera, config_in as config_in_object, config_of, IsConfig};
+ghost use Rattle.scan_lang.specs.Config.{config_cause, object_of, named, is_named as has_only_names, has_names as has_all_names, integer_at, camera_fields_of, fields_of, passed, version_tests, limit_tests, made, checked, bad_camera, config_in as config_in_object, config_of, IsConfig};
 ghost use Rattle.scan_lang.specs.declared.config.ConfigError.TheVariants.{Bad};
 
 use camera::{BadCamera, Camera, CameraFields, first_failing};
@@ -198,7 +198,7 @@ const NAMES: [&str; 18] = [
 /// line that is none is refused by the first test that it fails.
 #[tactic(auto, unfolding(crate::specs::Config::config_of))]
 pub fn read_config(alloc: Global, line: &[u8]) -> Result<Config, ConfigError>
-    ensures config { Gives (λ c. c) result (config_of line.now) }
+    ensures config { UnlessOutOfMemory config_cause (λ c. c) result (config_of line.now) }
     ensures known { IfOk result IsConfig }
 {
     let value = read_object(alloc, line)?;
@@ -207,7 +207,7 @@ pub fn read_config(alloc: Global, line: &[u8]) -> Result<Config, ConfigError>
 
 #[tactic(auto, unfolding(crate::specs::Config::object_of))]
 fn read_object(alloc: Global, line: &[u8]) -> Result<Value, ConfigError>
-    ensures { Gives view result (object_of line.now) }
+    ensures { UnlessOutOfMemory config_cause view result (object_of line.now) }
 {
     match Value::from_slice(alloc, line) {
         Ok(value) => {

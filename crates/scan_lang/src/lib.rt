@@ -5,6 +5,7 @@ mod config;
 mod entry;
 mod error;
 mod head;
+pub mod laws;
 mod line;
 mod reader;
 mod reply;

@@ -1,12 +1,10 @@
-ghost use Rattle.std.specs.Prelude.{◌≡◌, ◌<◌, ◌≤◌, ℕ, IfOk, OnOk, IsErrOf};
-ghost use Rattle.scan_io.specs.Causes.{Rose};
-ghost use Rattle.scan_io.specs.Reading.{Reads, stream, turned};
+ghost use Rattle.std.specs.Prelude.{◌≡◌, ◌<◌, ◌≤◌, ℕ, IfOk, OnOk};
+ghost use Rattle.scan_io.specs.Reading.{Reads, UnlessOutOfMemory, stream, turned, unread};
 ghost use Rattle.scan_lang.specs.Config.{IsConfig};
 ghost use Rattle.depth_frame.specs.Pgm.{pgm_of};
 ghost use Rattle.scan_lang.specs.Offsets.{bad_pgm};
-ghost use Rattle.scan_lang.specs.Readers.{scan_errors, begun, Tells};
+ghost use Rattle.scan_lang.specs.Readers.{scan_cause, scan_errors, begun};
 ghost use Rattle.scan_lang.specs.Scan.{config_at_start, begin_of, entry_at, entry_with, lines_after_config};
-ghost use Rattle.scan_lang.specs.declared.error.ScanError.TheVariants.{ReadFault};
 ghost use Rattle.scan_lang.specs.declared.head.Head.TheVariants.{Frame};
 
 use crate::config::{Config, ConfigError, read_config};
@@ -49,12 +47,10 @@ impl ScanReader {
         alloc: Global,
         source: &mut S,
     ) -> Result<(Config, ScanReader), ScanError>
-        ensures begin { Reads scan_errors (λ p. record { config = p.0; offset = p.1.kept.given }) begin_of (record { come = S.left source.old; given = 0 })
-            (begun result (S.left source.new)) (S.left source.new) result }
+        ensures begin { Reads scan_errors (λ p. record { config = p.0; offset = p.1.kept.given }) begin_of (unread (S.left source.old) (S.faults source.old))
+            (begun result (S.left source.new) (S.faults source.new)) result }
         ensures lines { IfOk result (λ p. p.1.left ≡ lines_after_config) }
         ensures config { IfOk result (λ p. IsConfig p.0) }
-        ensures later { S.faults source.old ≤ S.faults source.new }
-        ensures fault { IsErrOf result ReadFault → Rose (S.faults source.old) (S.faults source.new) }
     {
         let mut feed = match Feed::make(alloc) {
             Ok(feed) => feed,
@@ -74,10 +70,8 @@ impl ScanReader {
     /// the bytes that were read are lost, and the reader is of no further use.
     pub fn next<S: Source>(&mut self, alloc: Global, source: &mut S) -> Result<Entry, ScanError>
         ensures entry { Reads scan_errors (λ e. record { entry = e; left = self.new.left; offset = self.new.kept.given }) (entry_at self.old.left self.old.kept.given)
-            (stream self.old.kept (S.left source.old)) (stream self.new.kept (S.left source.new)) (S.left source.new) result }
+            (stream self.old.kept (S.left source.old) (S.faults source.old)) (stream self.new.kept (S.left source.new) (S.faults source.new)) result }
         ensures fewer { OnOk result (self.new.left < self.old.left) }
-        ensures later { S.faults source.old ≤ S.faults source.new }
-        ensures fault { IsErrOf result ReadFault → Rose (S.faults source.old) (S.faults source.new) }
     {
         for _ in 0..self.left {
             let offset = self.feed.place();
@@ -103,11 +97,9 @@ fn read_begin<S: Source>(
     source: &mut S,
 ) -> Result<Config, ScanError>
     requires { feed.old.given ≡ 0 }
-    ensures begin { Reads scan_errors (λ c. record { config = c; offset = feed.new.given }) begin_of (stream feed.old (S.left source.old))
-        (stream feed.new (S.left source.new)) (S.left source.new) result }
+    ensures begin { Reads scan_errors (λ c. record { config = c; offset = feed.new.given }) begin_of (stream feed.old (S.left source.old) (S.faults source.old))
+        (stream feed.new (S.left source.new) (S.faults source.new)) result }
     ensures config { IfOk result IsConfig }
-    ensures later { S.faults source.old ≤ S.faults source.new }
-    ensures fault { IsErrOf result ReadFault → Rose (S.faults source.old) (S.faults source.new) }
 {
     let line = read_line(alloc, feed, source, CONFIG_LINE_LIMIT)?;
     first_config(alloc, &line)
@@ -115,7 +107,7 @@ fn read_begin<S: Source>(
 
 // The configuration that the first line of a scan is.
 fn first_config(alloc: Global, line: &[u8]) -> Result<Config, ScanError>
-    ensures value { Tells (λ c. c) result (config_at_start line.now) }
+    ensures value { UnlessOutOfMemory scan_cause (λ c. c) result (config_at_start line.now) }
     ensures config { IfOk result IsConfig }
 {
     match read_config(alloc, line) {
@@ -135,10 +127,8 @@ fn read_entry<S: Source>(
     source: &mut S,
     head: Head,
 ) -> Result<Entry, ScanError>
-    ensures entry { (left : ℕ) → Reads scan_errors (λ e. record { entry = e; left = left; offset = feed.new.given }) (entry_with left feed.old.given head)
-        (stream feed.old (S.left source.old)) (stream feed.new (S.left source.new)) (S.left source.new) result }
-    ensures later { S.faults source.old ≤ S.faults source.new }
-    ensures fault { IsErrOf result ReadFault → Rose (S.faults source.old) (S.faults source.new) }
+    ensures { (left : ℕ) → Reads scan_errors (λ e. record { entry = e; left = left; offset = feed.new.given }) (entry_with left feed.old.given head)
+        (stream feed.old (S.left source.old) (S.faults source.old)) (stream feed.new (S.left source.new) (S.faults source.new)) result }
 {
     match head {
         Head::Frame(rows) => read_frame(alloc, feed, source, rows),
@@ -153,10 +143,8 @@ fn read_frame<S: Source>(
     source: &mut S,
     rows: PoseRows,
 ) -> Result<Entry, ScanError>
-    ensures frame { (left : ℕ) → Reads scan_errors (λ e. record { entry = e; left = left; offset = feed.new.given }) (entry_with left feed.old.given (Frame rows))
-        (stream feed.old (S.left source.old)) (stream feed.new (S.left source.new)) (S.left source.new) result }
-    ensures later { S.faults source.old ≤ S.faults source.new }
-    ensures fault { IsErrOf result ReadFault → Rose (S.faults source.old) (S.faults source.new) }
+    ensures { (left : ℕ) → Reads scan_errors (λ e. record { entry = e; left = left; offset = feed.new.given }) (entry_with left feed.old.given (Frame rows))
+        (stream feed.old (S.left source.old) (S.faults source.old)) (stream feed.new (S.left source.new) (S.faults source.new)) result }
 {
     let depths = read_depths(alloc, feed, source)?;
     // The offset after the depth map is a number of 64 bits.
@@ -170,10 +158,8 @@ fn read_depths<S: Source>(
     feed: &mut Feed,
     source: &mut S,
 ) -> Result<DepthFrame, ScanError>
-    ensures depths { Reads scan_errors (λ f. f) (λ text. turned bad_pgm (pgm_of feed.old.given text)) (stream feed.old (S.left source.old))
-        (stream feed.new (S.left source.new)) (S.left source.new) result }
-    ensures later { S.faults source.old ≤ S.faults source.new }
-    ensures fault { IsErrOf result ReadFault → Rose (S.faults source.old) (S.faults source.new) }
+    ensures { Reads scan_errors (λ f. f) (λ text. turned bad_pgm (pgm_of feed.old.given text)) (stream feed.old (S.left source.old) (S.faults source.old))
+        (stream feed.new (S.left source.new) (S.faults source.new)) result }
 {
     match read_pgm(alloc, feed, source) {
         Ok(depths) => Ok(depths),

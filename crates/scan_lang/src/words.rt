@@ -1,7 +1,7 @@
-ghost use Rattle.std.specs.Prelude.{◌≡◌, ◌<◌, ◌≤◌, ◌==◌, not, length, position, IfSome};
+ghost use Rattle.std.specs.Prelude.{◌≡◌, ◌<◌, ◌≤◌, ◌==◌, not, length, position, IfSome, Some};
 ghost use Rattle.std.specs.List.{position_or_len};
 ghost use Rattle.scan_lang.specs.Offsets.{offset_after, fault};
-ghost use Rattle.scan_lang.specs.Words.{is_blank as blank_test, words_of, scale_of, number_at, numbers_from, rows_in as rows_of, frame_head, alone as alone_of, head_with, head_of};
+ghost use Rattle.scan_lang.specs.Words.{is_blank as blank_test, words_of, scale_of, number_at, numbers_from, rows_in as rows_of, frame_head, alone as alone_of, one_word as record_of, head_with, head_of};
 ghost use Rattle.scan_lang.specs.Spans.{bytes_of, words_from, words_with};
 ghost use Rattle.scan_lang.specs.declared.error.BadWhat.TheVariants.{Line, Number};
 
@@ -53,22 +53,32 @@ fn read_record(offset: u64, line: &[u8], word: Span) -> Result<Head, BadScan>
     if bytes == b"frame".as_slice() {
         return read_frame(offset, line, word.end);
     }
-    if bytes == b"voxels".as_slice() {
-        return alone(offset, Entry::Voxels, line, word.end);
+    match one_word(bytes) {
+        Some(entry) => alone(offset, entry, line, word.end),
+        None => Err(line_fault(offset)),
     }
-    if bytes == b"sum".as_slice() {
-        return alone(offset, Entry::Sum, line, word.end);
+}
+
+// The record that is one word.
+fn one_word(word: &[u8]) -> Option<Entry>
+    ensures { result ≡ record_of word.now }
+{
+    if word == b"voxels".as_slice() {
+        return Some(Entry::Voxels);
     }
-    if bytes == b"end".as_slice() {
-        return alone(offset, Entry::End, line, word.end);
+    if word == b"sum".as_slice() {
+        return Some(Entry::Sum);
     }
-    Err(line_fault(offset))
+    if word == b"end".as_slice() {
+        return Some(Entry::End);
+    }
+    None
 }
 
 // A record of one word, which ends at the index `from` of the line.
 fn alone(offset: u64, entry: Entry, line: &[u8], from: usize) -> Result<Head, BadScan>
     requires { from ≤ length line.now }
-    ensures { result ≡ alone_of offset entry (words_from from line.now) }
+    ensures { result ≡ alone_of offset (Some entry) (words_from from line.now) }
 {
     if next_word(line, from).is_empty() {
         Ok(Head::Whole(entry))
@@ -149,7 +159,7 @@ fn read_number(offset: u64, index: usize, line: &[u8], word: Span) -> Result<i64
     }
 }
 
-// A rotation's entries are kept in units of 2^-30, a translation in micrometres.
+// An entry of the rotation is kept in units of 2^-30, a translation in micrometres.
 fn scale(index: usize) -> i64
     ensures { result ≡ scale_of index }
 {
