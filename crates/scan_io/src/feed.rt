@@ -1,7 +1,7 @@
 ghost use Rattle.std.specs.Prelude.{◌≡◌, ◌≢◌, ◌≤◌, ◌↔◌, ◌+◌, ◌-◌, ◌^◌, [], ◌∷◌, min, length, drop, false, IfOk, OnErr, IsTrue};
 ghost use Rattle.std.specs.Io.KnownBytes.{Keeps, IsAtEnd};
 ghost use Rattle.scan_io.specs.Causes.{HasCause};
-ghost use Rattle.scan_io.specs.Coming.{SameTelling, to_come, Gives, GivesKept, KeepsNone, given_after};
+ghost use Rattle.scan_io.specs.Coming.{LosesFront, SameTelling, to_come, Gives, GivesKept, KeepsNone, given_after};
 
 use crate::{Failed, NoMemory, Source};
 use std::alloc::Global;
@@ -9,7 +9,8 @@ use std::marker::Model;
 
 const BUFFER_LEN: usize = 4096;
 
-/// Gives the bytes of a source one by one, by a buffer of 4096 bytes. It holds no source: each call is lent it.
+/// Gives the bytes of a source one by one, through a buffer of 4096 bytes. A feed has no source of its own: each call
+/// is lent one.
 #[derive(Drop)]
 pub struct Feed {
     buffer: Vec<u8>,
@@ -30,7 +31,7 @@ impl Model for Feed {
 }
 
 impl Feed {
-    /// A feed that keeps no byte and gave none.
+    /// A feed that keeps no byte and has given none.
     pub fn make(alloc: Global) -> Result<Feed, NoMemory>
         ensures { IfOk result (λ f. f ≡ record { bytes = []; given = 0 }) }
     {
@@ -43,7 +44,8 @@ impl Feed {
         })
     }
 
-    /// The first byte to come, or nothing at the end of input. Only a feed that keeps no byte reads on, once.
+    /// The first byte to come, or `None` at the end of input. A feed that keeps bytes does not read from the source; one
+    /// that keeps none reads once.
     pub fn next<S: Source>(&mut self, source: &mut S) -> Result<Option<u8>, Failed>
         ensures gives { Gives (to_come self.old (S.left source.old)) (to_come self.new (S.left source.new)) result }
         ensures first { GivesKept self.old.bytes self.new.bytes result }
@@ -51,6 +53,7 @@ impl Feed {
         ensures kept { KeepsNone self.new.bytes result }
         ensures given { self.new.given ≡ given_after self.old.given result }
         ensures telling { SameTelling (S.left source.old) (S.left source.new) }
+        ensures front { LosesFront (to_come self.old (S.left source.old)) (to_come self.new (S.left source.new)) }
         ensures cause { HasCause (S.faults source.old) (S.faults source.new) result }
     {
         if !self.is_spent() {
@@ -63,21 +66,21 @@ impl Feed {
         }
     }
 
-    /// The number of bytes given, held at its greatest value.
+    /// The number of bytes given; it saturates at `2^64 - 1`.
     pub fn place(&self) -> u64
         ensures { result ≡ self.now.given }
     {
         self.given
     }
 
-    /// The bytes that it keeps, which are the next to come.
+    /// The kept bytes, which are the next to come.
     pub fn kept(&self) -> &[u8]
         ensures { result.now ≡ self.now.bytes }
     {
         &self.buffer[self.at..self.end]
     }
 
-    /// Gives the first `count` of the bytes that it keeps, all at once.
+    /// Gives the first `count` of the kept bytes, all at once.
     pub fn skip(&mut self, count: usize)
         requires { count ≤ length self.old.bytes }
         ensures bytes { self.new.bytes ≡ drop count self.old.bytes }
@@ -87,14 +90,14 @@ impl Feed {
         self.given = self.given.saturating_add(count as u64);
     }
 
-    // Whether it keeps no byte.
+    // Whether the feed keeps no byte.
     fn is_spent(&self) -> bool
         ensures { IsTrue result ↔ (self.now.bytes ≡ []) }
     {
         self.at == self.end
     }
 
-    // Gives the first kept byte.
+    // Gives the first of the kept bytes.
     fn take(&mut self) -> u8
         requires { self.old.bytes ≢ [] }
         ensures first { self.old.bytes ≡ result ∷ self.new.bytes }
@@ -106,7 +109,7 @@ impl Feed {
         byte
     }
 
-    // Reads once into the empty buffer, and answers whether it keeps a byte now.
+    // Reads once into the empty buffer, and returns whether the feed keeps a byte now.
     fn refill<S: Source>(&mut self, source: &mut S) -> Result<bool, Failed>
         requires { self.old.bytes ≡ [] }
         ensures coming { Keeps (to_come self.old (S.left source.old)) (to_come self.new (S.left source.new)) }

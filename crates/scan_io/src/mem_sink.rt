@@ -8,8 +8,8 @@ use crate::{Failed, NoMemory, Sink};
 use std::alloc::Global;
 use std::marker::Model;
 
-/// A sink over memory. It takes at most `piece` bytes a call and `room` bytes in all. It fails just the calls whose
-/// numbers, from 0, are in `fails`, and those on a piece that is not empty where `room` bytes were taken.
+/// A sink over memory. It takes at most `piece` bytes a call and `room` bytes in all. It fails the calls whose numbers,
+/// from 0, are in `fails`, and those with a piece that is not empty once `room` bytes are taken; no others.
 #[derive(Drop)]
 pub struct MemSink {
     taken: Vec<u8>,
@@ -32,7 +32,7 @@ impl Model for MemSink {
 }
 
 impl MemSink {
-    /// A sink that took nothing yet, with room for `room` bytes.
+    /// A sink that has taken nothing, with room for `room` bytes.
     pub fn make(
         alloc: Global,
         room: usize,
@@ -60,7 +60,7 @@ impl MemSink {
         &self.taken
     }
 
-    // Numbers this call, and answers whether it is one of those that fail.
+    // Counts this call, and returns whether it is one of those that fail.
     fn is_failing(&mut self) -> bool
         ensures fails { IsTrue result ↔ Contains self.old.fails self.old.calls }
         ensures same { self.new ≡ record self.old { calls = call_after self.old.calls } }

@@ -7,8 +7,8 @@ ghost use Rattle.scan_io.specs.Memory.{call_after};
 use crate::{Failed, Source};
 use std::marker::Model;
 
-/// A source over memory. It gives at most `piece` bytes a call, and fails just the calls whose numbers, from 0, are
-/// in `fails`.
+/// A source over memory. It gives at most `piece` bytes a call, and fails the calls whose numbers, from 0, are in
+/// `fails`, and no others.
 #[derive(Drop)]
 pub struct MemSource {
     bytes: Vec<u8>,
@@ -31,7 +31,7 @@ impl Model for MemSource {
 }
 
 impl MemSource {
-    /// A source of these bytes that was not called yet.
+    /// A source of these bytes, before its first call.
     pub fn make(bytes: Vec<u8>, piece: usize, fails: Vec<u64>) -> MemSource
         requires { 1 ≤ piece }
         ensures { result ≡ record { left = bytes.items; piece = piece; fails = fails.items; calls = 0; faults = 0 } }
@@ -46,7 +46,7 @@ impl MemSource {
         }
     }
 
-    // Numbers this call, and answers whether it is one of those that fail.
+    // Counts this call, and returns whether it is one of those that fail.
     fn is_failing(&mut self) -> bool
         ensures fails { IsTrue result ↔ Contains self.old.fails self.old.calls }
         ensures same { self.new ≡ record self.old { calls = call_after self.old.calls } }

@@ -11,11 +11,11 @@ pub trait Source {
     /// The bytes still to come, where the source tells them.
     ghost left: { Self → Option (List ℕ) };
 
-    /// How often it failed.
+    /// How often it failed; the count saturates at `2^64 - 1`.
     ghost faults: { Self → ℕ };
 
-    /// Puts bytes at the front of `buf` and answers their number, which is 0 only at the end of input or for
-    /// an empty buffer. A failed call takes no byte from the input.
+    /// Puts bytes at the front of `buf` and returns their number, which is 0 only at the end of input or for
+    /// an empty buffer. A call that fails takes no byte from the input and raises the count; no other call does.
     fn read(&mut self, buf: &mut [u8]) -> Result<usize, Failed>
         ensures bound { ReadsAtMost result buf.new }
         ensures bytes { ReadConsumes (left self.old) (left self.new) result buf.new }
@@ -29,11 +29,11 @@ pub trait Sink {
     /// The bytes taken so far, where the sink tells them.
     ghost written: { Self → Option (List ℕ) };
 
-    /// How often it failed.
+    /// How often it failed; the count saturates at `2^64 - 1`.
     ghost faults: { Self → ℕ };
 
-    /// Takes bytes from the front of `piece` and answers their number, at least 1 for a piece that is not empty.
-    /// A failed call takes no byte.
+    /// Takes bytes from the front of `piece` and returns their number, at least 1 for a piece that is not empty.
+    /// A call that fails takes no byte and raises the count; no other call does.
     fn write(&mut self, piece: &[u8]) -> Result<usize, Failed>
         ensures bound { WritesAtMost result piece.now }
         ensures progress { 0 < length piece.now → IfOk result (λ n. 0 < n) }

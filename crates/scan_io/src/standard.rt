@@ -7,7 +7,7 @@ use crate::{Failed, Sink, Source};
 use std::io::{Read, Write};
 use std::marker::Model;
 
-/// A source over any reader. It tells nothing of what is to come, and raises its count at each error of the reader.
+/// A source over any reader. It tells nothing of the bytes to come, and raises its count at each error of the reader.
 #[derive(Drop)]
 pub struct StdSource<R: Read> {
     inner: R,
@@ -57,8 +57,8 @@ impl<R: Read> Source for StdSource<R> {
     }
 }
 
-/// A sink over any writer. It tells nothing of what it took, and raises its count at each error of the writer and
-/// where the writer takes nothing. It holds no byte back: what it took, the writer has.
+/// A sink over any writer. It tells nothing of the bytes that it took, and raises its count at each error of the writer
+/// and where the writer takes nothing of a piece that is not empty. It keeps no byte back: what it took, the writer has.
 #[derive(Drop)]
 pub struct StdSink<W: Write> {
     inner: W,

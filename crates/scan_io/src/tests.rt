@@ -14,7 +14,7 @@ fn long_text(alloc: Global) -> Result<Vec<u8>, Fail> {
     Ok(text)
 }
 
-// What a feed gives until the end of input, how many calls of it failed, and the place that it tells then.
+// What a feed gives until the end of input, how many of its calls failed, and how many bytes it has given then.
 fn drained<S: Source>(alloc: Global, source: &mut S) -> Result<(Vec<u8>, u32, u64), Fail> {
     let mut feed = Feed::make(alloc).map_err(|_| Fail::from("memory"))?;
     let mut bytes = Vec::new(alloc);
@@ -106,7 +106,7 @@ fn all_bytes_are_put_in_pieces_up_to_a_failure(rt: HostRuntime) -> Result<(), Fa
     Ok(())
 }
 
-// A reader whose first call fails, and which then gives one byte a call. A writer whose first call fails and whose
+// A reader whose first call fails, and which then gives one byte a call; a writer whose first call fails, whose
 // second takes nothing, and which then takes one byte a call.
 #[derive(Drop)]
 struct Faulty {

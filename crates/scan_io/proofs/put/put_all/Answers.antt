@@ -7,5 +7,5 @@ loop-done-preserved g c = record {
   within = search rules;
   grown = appends_more _ _ _ _ _ _ c.loop-done.invariant.grown c.in_ok-done.ensures.bytes;
   telling = c.in_ok-done.ensures.telling ∙ c.loop-done.invariant.telling;
-  later = omega (arith, c.loop-done.invariant.later, c.write.ensures.cause.later);
+  kept = c.in_ok-done.ensures.cause.kept ∙ c.loop-done.invariant.kept;
 }

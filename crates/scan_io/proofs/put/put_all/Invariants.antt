@@ -1,4 +1,4 @@
-use Rattle.std.proofs.Common.{length, ◌-◌, ◌≤◌, take}
+use Rattle.std.proofs.Common.{◌≡◌, length, ◌-◌, ◌≤◌, take}
 use Rattle.std.specs.Io.KnownBytes.{Appends}
 use Rattle.scan_io.specs.Coming.{SameTelling}
 use Rattle.scan_io.proofs.put.put_all.Given as goal
@@ -8,7 +8,7 @@ invariant-loop-done g l = record {
   within : l.done ≤ length l.bytes;
   grown : Appends (g.K.Sink.written l.initial.sink) (g.K.Sink.written l.sink) (take l.done l.bytes);
   telling : SameTelling (g.K.Sink.written l.initial.sink) (g.K.Sink.written l.sink);
-  later : g.K.Sink.faults l.initial.sink ≤ g.K.Sink.faults l.sink;
+  kept : g.K.Sink.faults l.sink ≡ g.K.Sink.faults l.initial.sink;
 }
 
 abbrev pub decreases-loop-done : goal.decreases-loop-done
