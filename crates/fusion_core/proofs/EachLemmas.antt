@@ -67,8 +67,5 @@ Whole v = length v ≡ 512
 pub whole_all : (m : BlockMap) (ks : List BlockKey) → HasWholeBlocks m → HasWholeBlocks (fold touched m ks)
 whole_all m ks whole = each_all Whole m ks length-new_block whole
 
-pub whole_updated : (f : Frame) (m : BlockMap) → HasWholeBlocks m → HasWholeBlocks (all_updated f m)
-whole_updated f m whole = each_updated Whole f (λ b v long. same_length v _ ∙ long) m whole
-
 pub whole_fused : (f : Frame) (m : BlockMap) → HasWholeBlocks m → HasWholeBlocks (fuse m f)
 whole_fused f m whole = each_fused Whole f (λ b v long. same_length v _ ∙ long) m length-new_block whole

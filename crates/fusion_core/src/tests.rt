@@ -32,7 +32,7 @@ const PIXEL: CameraFields = CameraFields {
 
 fn is_shared<T: Send + Sync>(_value: &T) {}
 
-// What the pixel sees of a wall one metre away, or of what else a depth map of this size and pose shows.
+// The frame of a depth map of these sides whose samples all show a wall one metre away.
 fn offered(
     alloc: Global,
     r: [i64; 9],

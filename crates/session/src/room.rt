@@ -57,7 +57,7 @@ pub fn make_room(
     }
 }
 
-/// Touches them, and makes the plan. Whatever is told, the blocks that were there lie where they were.
+/// Touches them, and makes the plan. Whatever the answer, the blocks that were there lie where they were.
 fn plan_within(
     alloc: Global,
     places: &mut Places,
@@ -141,7 +141,7 @@ fn spares(alloc: Global, places: &Places, frame: &Frame) -> Result<Vec<Block>, N
     Ok(spares)
 }
 
-/// Puts a block behind those of the list.
+/// Appends a new block.
 fn push_spare(alloc: Global, spares: &mut Vec<Block>) -> Result<(), NoMemory>
     ensures { OnOk result (length spares.new.items ≡ length spares.old.items + 1) }
 {

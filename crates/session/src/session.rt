@@ -32,6 +32,8 @@ use std::marker::Model;
 use voxel_block::NoMemory;
 
 /// The map of the frames so far, their number, and the pose of the last one, under a configuration.
+///
+/// A block is resident, which means that it lies in the heap, exactly where it is active for the last frame.
 #[derive(Drop)]
 pub struct Session {
     config: Config,

@@ -21,7 +21,7 @@ fn session(alloc: Global, heap_blocks: u32) -> Option<Session> {
     Session::start(alloc, config).ok()
 }
 
-// What is answered to a row of pixels that all show one sample, seen from `x` on the first axis.
+// The answer to a row of pixels that all show one sample, taken from `x` on the first axis.
 fn fuse(
     alloc: Global,
     session: &mut Session,
