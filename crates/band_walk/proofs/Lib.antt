@@ -1,4 +1,4 @@
-mod BandSet
+pub mod BandSet
 mod Keys
 mod Machine
 mod SampleLemmas

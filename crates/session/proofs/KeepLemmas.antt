@@ -11,7 +11,7 @@ use Rattle.block_places.proofs.Blocks.{has-blocks}
 use Rattle.block_places.proofs.Keeping.{alike}
 use Rattle.block_places.proofs.Moves.{with_slots}
 use Rattle.session.specs.Rooms.{KeepsSlots}
-use Rattle.session.proofs.MapLemmas.{same_key, same_key_is}
+use Rattle.fusion_core.proofs.MapLemmas.{same_key, same_key_is}
 
 pub keeps_same : (m n : Places) → n ≡ m → KeepsSlots m n
 keeps_same m n e = record { table = ap (λ (p : Places). p.table) e; heap = ap (λ (p : Places). p.heap) e; slots = λ b h. ap (λ (p : Places). get p.slots b) e }
@@ -61,7 +61,7 @@ put_back m n test is keeps =
     let slots : retain_keys n.slots test ≡ m.slots = back m.slots n.slots test (λ b. is b ∙ has-blocks m b) keeps.slots in
     λ i. record { slots = slots i; table = keeps.table i; heap = keeps.heap i }
 
--- no key that is away is taken out
+-- no resident key is taken out
 pub away_known : (m n : Places) (test : BlockKey → Bool) → IsPlaced m → ((b : BlockKey) → test b ≡ contains_key (blocks_of m) b) → KeepsSlots m n → (k : BlockKey) → IsTrue (contains_key (contents n.table) k) → IsTrue (test k)
 away_known m n test placed is keeps k h =
     let was : contains_key (contents m.table) k ≡ true = ap (λ t. contains_key (contents t) k) (sym keeps.table) ∙ h in

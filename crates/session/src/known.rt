@@ -19,7 +19,7 @@ pub fn known_voxels(alloc: Global, places: &Places) -> Result<Vec<KnownVoxel>, A
     Ok(known)
 }
 
-/// Puts the known voxels of a block behind those of the list, if there is one.
+/// Appends the known voxels of a block, if there is one.
 fn push_found(
     known: &mut Vec<KnownVoxel>,
     key: BlockKey,
@@ -33,7 +33,7 @@ fn push_found(
     }
 }
 
-/// Puts the known voxels of a block behind those of the list.
+/// Appends the known voxels of a block.
 fn push_block(known: &mut Vec<KnownVoxel>, key: BlockKey, block: &Block) -> Result<(), AllocError>
     ensures { OnOk result (known.new.items ≡ known.old.items ++ known_in key block.now) }
 {
@@ -43,7 +43,7 @@ fn push_block(known: &mut Vec<KnownVoxel>, key: BlockKey, block: &Block) -> Resu
     Ok(())
 }
 
-/// Puts a voxel behind those of the list, if there is one.
+/// Appends a voxel, if there is one.
 fn push_voxel(known: &mut Vec<KnownVoxel>, voxel: Option<KnownVoxel>) -> Result<(), AllocError>
     ensures { OnOk result (known.new.items ≡ known.old.items ++ option_to_list voxel) }
 {
@@ -56,7 +56,7 @@ fn push_voxel(known: &mut Vec<KnownVoxel>, voxel: Option<KnownVoxel>) -> Result<
     }
 }
 
-/// The voxel of index `i` of a block with its coordinates in the whole grid, if it was seen at least once.
+/// The voxel of index `i` of a block with its coordinates in the whole grid, if it is known.
 pub fn known_at(key: BlockKey, i: u16, voxel: Voxel) -> Option<KnownVoxel>
     requires { i < 512 }
     ensures { result ≡ known_at_of key i voxel }

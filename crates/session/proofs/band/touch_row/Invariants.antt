@@ -2,8 +2,8 @@ use Rattle.std.proofs.Common.{◌≡◌, fold}
 use Rattle.band_walk.specs.Bands.{row_blocks}
 use Rattle.band_walk.specs.RemainingKeys.{remaining_keys}
 use Rattle.block_places.specs.Places.{blocks_of}
-use Rattle.session.specs.Frames.{view}
-use Rattle.session.specs.Maps.{touched}
+use Rattle.fusion_core.specs.Frames.{view}
+use Rattle.fusion_core.specs.Maps.{touched}
 use Rattle.session.specs.Rooms.{KeepsSlots}
 use Rattle.session.proofs.band.touch_row.Given as goal
 
