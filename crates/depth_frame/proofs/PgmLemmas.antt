@@ -1,8 +1,9 @@
 -- The steps of a header and of a raster, byte by byte.
-use Rattle.std.proofs.Common.{◌≡◌, ℕ, suc, ◌+◌, ◌-◌, ◌*◌, ◌^◌, ◌≤◌, ◌<◌, add-one, append_assoc, List, [], ◌∷◌, ◌++◌, Bool, true, false, leb, eqb, ◌||◌, Result, Ok, Err, refl, cond, arith}
+use Rattle.std.proofs.Common.{◌≡◌, ℕ, suc, ◌+◌, ◌-◌, ◌*◌, ◌^◌, ◌≤◌, ◌<◌, add-one, append_assoc, List, [], ◌∷◌, ◌++◌, Bool, true, false, leb, eqb, ◌||◌, ◌⊎◌, inl, inr, Result, Ok, Err, refl, cond, arith}
 use Rattle.std.proofs.lemmas.Bool.{le-leb, lt-leb}
 use Rattle.std.proofs.lemmas.List.{append-nil}
 use Rattle.std.specs.Char.{is_ascii_digit}
+use Rattle.fixed_geom.specs.Decimal.{with_digit}
 use Rattle.depth_frame.specs.declared.error.BadPgm.{BadPgm}
 use Rattle.depth_frame.specs.declared.error.PgmKind.TheVariants.{Magic, Header}
 use Rattle.depth_frame.specs.declared.header.Mark.{Mark}
@@ -10,16 +11,16 @@ use Rattle.depth_frame.specs.declared.header.Number.{Number}
 use Rattle.depth_frame.specs.declared.header.Shape.{Shape}
 use Rattle.depth_frame.specs.DepthMaps.{DepthMap}
 use Rattle.std.proofs.Math.Nat.{pow-suc, pow-le-pow_right}
-use Rattle.depth_frame.specs.Pgm.{short, gap_behind, gap_end, in_gap, in_comment, mark, fault, number_behind, number_end, with_digit, number_at, judged_at, is_magic, starts_gap, magic_at, header_at, side_judged, maxval_judged, one_sample, sample_judged, is_wide, sample_len, with_sample, raster_at, pgm_at, placed}
+use Rattle.depth_frame.specs.Pgm.{short, gap_step, gap_end, in_gap, in_comment, mark, fault, number_step, number_end, number_at, judged_at, is_magic, starts_gap, magic_at, header_at, side_judged, maxval_judged, one_sample, sample_judged, is_wide, sample_len, with_sample, raster_at, pgm_at, placed}
 use Rattle.depth_frame.specs.Runs.{with_front, raster_further}
-use Rattle.scan_io.specs.Reading.{byte_at, held}
+use Rattle.scan_io.specs.Reading.{byte_at, saturated}
 use Rattle.scan_io.proofs.ReadingLemmas.{KeepsEnds}
 use Rattle.scan_io.specs.Steps.{◌>>=◌}
 
 -- ---- a gap
 
 abbrev pub gap_next : Bool → ℕ → ℕ → List ℕ → Result (Mark × List ℕ) BadPgm
-gap_next comment n b rest = gap_behind comment n b rest (gap_end (in_comment comment b) (n + 1) rest)
+gap_next comment n b rest = gap_step comment n b rest (gap_end (in_comment comment b) (n + 1) rest)
 
 pub gap_split : (comment : Bool) (n : ℕ) (t : List ℕ) → gap_end comment n t ≡ (byte_at short n t >>= λ p. gap_next comment n p.0 p.1)
 gap_split comment n [] = refl
@@ -40,7 +41,7 @@ gap_long comment n b high t = let e : leb 4096 n ≡ true = le-leb 4096 n high i
 -- ---- a number
 
 abbrev pub number_next : ℕ → ℕ → ℕ → ℕ → List ℕ → Result (Number × List ℕ) BadPgm
-number_next first v n b rest = number_behind first v n b rest (number_end first (with_digit v b) (n + 1) rest)
+number_next first v n b rest = number_step first v n b rest (number_end first (with_digit v b) (n + 1) rest)
 
 pub number_split : (first v n : ℕ) (t : List ℕ) → number_end first v n t ≡ (byte_at short n t >>= λ p. number_next first v n p.0 p.1)
 number_split first v n [] = refl
@@ -52,11 +53,15 @@ number_on first v n b few low digit t =
     let f : leb 4096 n ≡ false = lt-leb 4096 n low in
     rw (digit, e, f) refl
 
-pub number_whole : (first v n b : ℕ) → is_ascii_digit b ≡ false → (t : List ℕ) → number_next first v n b t ≡ Ok (record { value = v; first = first; behind = b; at = n }, t)
+pub number_whole : (first v n b : ℕ) → is_ascii_digit b ≡ false → (t : List ℕ) → number_next first v n b t ≡ Ok (record { value = v; first = first; after = b; offset = n }, t)
 number_whole first v n b digit t = rw digit refl
 
-pub number_bad : (first v n b : ℕ) → (leb (first + 9) n || leb 4096 n) ≡ true → is_ascii_digit b ≡ true → (t : List ℕ) → number_next first v n b t ≡ Err (fault Header n)
-number_bad first v n b long digit t = rw (digit, long) refl
+pub number_long : (first v n b : ℕ) → (first + 9 ≤ n) ⊎ ((n < first + 9) × (4096 ≤ n)) → is_ascii_digit b ≡ true → (t : List ℕ) → number_next first v n b t ≡ Err (fault Header n)
+number_long first v n b (inl many) digit t = let e : leb (first + 9) n ≡ true = le-leb (first + 9) n many in rw (digit, e) refl
+number_long first v n b (inr late) digit t =
+    let e : leb (first + 9) n ≡ false = lt-leb (first + 9) n late.0 in
+    let f : leb 4096 n ≡ true = le-leb 4096 n late.1 in
+    rw (digit, e, f) refl
 
 digit_more : (n k d : ℕ) → n < 10 ^ k → d ≤ 9 → 10 * n + d < 10 ^ (k + 1)
 digit_more n k d h small = let e : 10 ^ (k + 1) ≡ 10 ^ k * 10 = rw add-one (pow-suc 10 k) in omega arith
@@ -97,7 +102,7 @@ unfolding magic_at
 magic_split t = refl
 
 abbrev pub number_rest : Mark → List ℕ → Result (Number × List ℕ) BadPgm
-number_rest d t = number_end d.at (d.byte - 48) (d.at + 1) t
+number_rest d t = number_end d.offset (d.byte - 48) (d.offset + 1) t
 
 pub number_parts : (b n : ℕ) (t : List ℕ) → number_at b n t ≡ (gap_end (eqb b 35) (n + 1) t >>= λ p. number_rest p.0 p.1)
 unfolding number_at
@@ -111,13 +116,13 @@ unfolding judged_at
 judged_split judge b n t = refl
 
 abbrev pub shape : Number → Number → Number → Shape
-shape w h m = record { width = w.value; height = h.value; most = m.value; start = m.at + 1 }
+shape w h m = record { width = w.value; height = h.value; maxval = m.value; start = m.offset + 1 }
 
-abbrev pub header_most : Number → Number → List ℕ → Result (Shape × List ℕ) BadPgm
-header_most w h t = judged_at maxval_judged h.behind h.at t >>= λ p. Ok (shape w h p.0, p.1)
+abbrev pub header_maxval : Number → Number → List ℕ → Result (Shape × List ℕ) BadPgm
+header_maxval w h t = judged_at maxval_judged h.after h.offset t >>= λ p. Ok (shape w h p.0, p.1)
 
 abbrev pub header_height : Number → List ℕ → Result (Shape × List ℕ) BadPgm
-header_height w t = judged_at side_judged w.behind w.at t >>= λ p. header_most w p.0 p.1
+header_height w t = judged_at side_judged w.after w.offset t >>= λ p. header_maxval w p.0 p.1
 
 abbrev pub header_width : ℕ → List ℕ → Result (Shape × List ℕ) BadPgm
 header_width b t = judged_at side_judged b 2 t >>= λ p. header_height p.0 p.1
@@ -129,26 +134,26 @@ header_split t = refl
 -- ---- samples
 
 abbrev pub sample_low : ℕ → ℕ → ℕ → List ℕ → Result (ℕ × List ℕ) BadPgm
-sample_low most n a t = byte_at short (n + 1) t >>= λ p. sample_judged most n (256 * a + p.0) p.1
+sample_low maxval n a t = byte_at short (n + 1) t >>= λ p. sample_judged maxval n (256 * a + p.0) p.1
 
 abbrev pub sample_high : ℕ → ℕ → ℕ → List ℕ → Result (ℕ × List ℕ) BadPgm
-sample_high most n a t = cond (is_wide most) (sample_low most n a t) (sample_judged most n a t)
+sample_high maxval n a t = cond (is_wide maxval) (sample_low maxval n a t) (sample_judged maxval n a t)
 
-pub sample_split : (most n : ℕ) (t : List ℕ) → one_sample most n t ≡ (byte_at short n t >>= λ p. sample_high most n p.0 p.1)
-sample_split most n t = refl
+pub sample_split : (maxval n : ℕ) (t : List ℕ) → one_sample maxval n t ≡ (byte_at short n t >>= λ p. sample_high maxval n p.0 p.1)
+sample_split maxval n t = refl
 
-pub sample_narrow : (most n a : ℕ) → is_wide most ≡ false → (t : List ℕ) → sample_high most n a t ≡ sample_judged most n a t
-sample_narrow most n a is t = rw is refl
+pub sample_narrow : (maxval n a : ℕ) → is_wide maxval ≡ false → (t : List ℕ) → sample_high maxval n a t ≡ sample_judged maxval n a t
+sample_narrow maxval n a is t = rw is refl
 
-pub sample_wide : (most n a : ℕ) → is_wide most ≡ true → (t : List ℕ) → sample_high most n a t ≡ (byte_at short (n + 1) t >>= λ p. sample_judged most n (256 * a + p.0) p.1)
-sample_wide most n a is t = rw is refl
+pub sample_wide : (maxval n a : ℕ) → is_wide maxval ≡ true → (t : List ℕ) → sample_high maxval n a t ≡ (byte_at short (n + 1) t >>= λ p. sample_judged maxval n (256 * a + p.0) p.1)
+sample_wide maxval n a is t = rw is refl
 
 front_none : (r : Result (List ℕ × List ℕ) BadPgm) → r ≡ with_front [] r
 front_none (Ok p) = refl
 front_none (Err why) = refl
 
-pub raster_none : (most k j n at : ℕ) → j ≡ k → at ≡ n → (t : List ℕ) → raster_at most k n t ≡ raster_further [] most j at t
-raster_none most k j n at is place t = rw (is, place) (front_none (raster_at most k n t))
+pub raster_none : (maxval k j n at : ℕ) → j ≡ k → at ≡ n → (t : List ℕ) → raster_at maxval k n t ≡ raster_further [] maxval j at t
+raster_none maxval k j n at is same t = rw (is, same) (front_none (raster_at maxval k n t))
 
 front_more : (vs : List ℕ) (v : ℕ) (r : Result (List ℕ × List ℕ) BadPgm) → with_front vs (with_sample v r) ≡ with_front (vs ++ v ∷ []) r
 front_more vs v (Ok p) = rw append_assoc refl
@@ -158,25 +163,25 @@ front_bind : (vs : List ℕ) (r : Result (ℕ × List ℕ) BadPgm) (f : ℕ → 
 front_bind vs (Ok s) f = front_more vs s.0 (f s.0 s.1)
 front_bind vs (Err why) f = refl
 
-pub raster_split : (vs : List ℕ) (most j k n : ℕ) → j ≡ suc k → (t : List ℕ) → raster_further vs most j n t ≡ (one_sample most n t >>= λ s. raster_further (vs ++ s.0 ∷ []) most k (n + sample_len most) s.1)
-raster_split vs most j k n is t = rw is (front_bind vs (one_sample most n t) (λ s u. raster_at most k (n + sample_len most) u))
+pub raster_split : (vs : List ℕ) (maxval j k n : ℕ) → j ≡ suc k → (t : List ℕ) → raster_further vs maxval j n t ≡ (one_sample maxval n t >>= λ s. raster_further (vs ++ s.0 ∷ []) maxval k (n + sample_len maxval) s.1)
+raster_split vs maxval j k n is t = rw is (front_bind vs (one_sample maxval n t) (λ s u. raster_at maxval k (n + sample_len maxval) u))
 
-pub raster_whole : (vs : List ℕ) (most j n : ℕ) → j ≡ 0 → (t : List ℕ) → raster_further vs most j n t ≡ Ok (vs, t)
-raster_whole vs most j n is t = rw (is, append-nil) refl
+pub raster_whole : (vs : List ℕ) (maxval j n : ℕ) → j ≡ 0 → (t : List ℕ) → raster_further vs maxval j n t ≡ Ok (vs, t)
+raster_whole vs maxval j n is t = rw (is, append-nil) refl
 
 -- ---- the file
 
 abbrev pub depth_map : Shape → List ℕ → DepthMap
 depth_map s raw = record { width = s.width; height = s.height; raw = raw }
 
-abbrev pub file_raster : Shape → List ℕ → Result (DepthMap × List ℕ) BadPgm
-file_raster s t = raster_at s.most (s.width * s.height) s.start t >>= λ p. Ok (depth_map s p.0, p.1)
+abbrev pub raster_of : Shape → List ℕ → Result (DepthMap × List ℕ) BadPgm
+raster_of s t = raster_at s.maxval (s.width * s.height) s.start t >>= λ p. Ok (depth_map s p.0, p.1)
 
-pub file_split : (t : List ℕ) → pgm_at t ≡ (header_at t >>= λ p. file_raster p.0 p.1)
+pub file_split : (t : List ℕ) → pgm_at t ≡ (header_at t >>= λ p. raster_of p.0 p.1)
 unfolding pgm_at
 file_split t = refl
 
--- ---- places counted from another first byte
+-- ---- offsets from another first byte
 
 pub ends_placed : (start : ℕ) → KeepsEnds (placed start) short short
-ends_placed start = record { place = λ n. held (start + n); is = λ n. refl }
+ends_placed start = record { offset = λ n. saturated (start + n); is = λ n. refl }

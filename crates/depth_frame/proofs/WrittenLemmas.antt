@@ -1,31 +1,28 @@
--- What is written of a depth map is read again.
-use Rattle.std.proofs.Common.{◌≡◌, ℕ, suc, ◌+◌, ◌-◌, ◌*◌, ◌/◌, ◌%◌, ◌^◌, ◌≤◌, ◌<◌, List, [], ◌∷◌, ◌++◌, length, true, false, leb, eqb, Result, Ok, refl, sym, ap, ◌∙◌, append_assoc, length-append, get_or, arith}
+-- What is written of a depth map is a file, and so it is read again.
+use Rattle.std.proofs.Common.{◌≡◌, ℕ, suc, ◌+◌, ◌*◌, ◌/◌, ◌%◌, ◌^◌, ◌≤◌, ◌<◌, List, [], ◌∷◌, ◌++◌, length, map, true, Ok, refl, sym, ap, ◌∙◌, append_assoc, length-append, get_or, arith}
 use Rattle.std.specs.Prelude.{codes}
-use Rattle.std.proofs.lemmas.Bool.{le-leb, lt-leb, and_parts}
 use Rattle.std.proofs.lemmas.Bool.Decides.{nat_tests}
 use Rattle.std.proofs.lemmas.Fmt.{decimal_by_steps, length-decimal-le}
-use Rattle.std.proofs.lemmas.List.Sums.{fold_push}
+use Rattle.std.proofs.lemmas.List.{length-map}
+use Rattle.std.proofs.lemmas.List.Elements.{All-cons}
 use Rattle.std.proofs.lemmas.List.Folds.{list_all-append}
+use Rattle.std.proofs.lemmas.List.Sums.{fold_push}
 use Rattle.std.specs.Char.{is_ascii_digit}
 use Rattle.std.specs.Fmt.{decimal}
 use Rattle.std.specs.Int.{to_be_bytes, w16}
-use Rattle.std.specs.List.{fold, list_all, flat_map}
-use Rattle.depth_frame.specs.declared.error.BadPgm.{BadPgm}
-use Rattle.depth_frame.specs.declared.header.Mark.{Mark}
-use Rattle.depth_frame.specs.declared.header.Number.{Number}
-use Rattle.depth_frame.specs.declared.header.Shape.{Shape}
+use Rattle.std.specs.List.{All, list_all, flat_map}
+use Rattle.fixed_geom.specs.Decimal.{number_of}
 use Rattle.depth_frame.specs.DepthMaps.{DepthMap}
-use Rattle.depth_frame.specs.Pgm.{gap_end, mark, number_end, with_digit, number_at, judged_at, side_judged, maxval_judged, magic_at, header_at, one_sample, raster_at, pgm_at, pgm_text, starts_gap, is_white, in_gap, with_sample, sample_len, HasSides, pgm_of, placed}
-use Rattle.scan_io.specs.Steps.{◌>>=◌}
-use Rattle.scan_io.specs.Reading.{turned}
-use Rattle.depth_frame.proofs.PgmLemmas.{number_on, number_whole, gap_digit, number_rest, number_parts, judged_rest, judged_split, shape, header_width, header_height, header_most, header_split, file_raster, file_split, magic_split}
+use Rattle.depth_frame.specs.Files.{white, Gap, gap_bytes, IsNumber, SampleBytes, sample_of, sample_bytes, IsSample, File, file_header, file_bytes, IsFile, file_depth_map}
+use Rattle.depth_frame.specs.Pgm.{HasSides, pgm_text, pgm_of}
+use Rattle.depth_frame.proofs.FileLemmas.{header_size, file_is_read_after}
 
 -- ---- digits
 
--- so much of the bytes of a number
+-- the bytes are digits, and n is their number
 record Spells (n : ℕ) (ds : List ℕ) : Type 0 where
   digits : list_all is_ascii_digit ds ≡ true
-  value : fold with_digit 0 ds ≡ n
+  value : number_of ds ≡ n
   some : 1 ≤ length ds
 
 digit_test : (n : ℕ) → n < 10 → is_ascii_digit (48 + n) ≡ true
@@ -43,116 +40,79 @@ spells_more n ds h s =
       some = omega (arith, length-append {A = ℕ});
     }
 
-spells_decimal : (n : ℕ) → n < 2 ^ 64 → Spells n (decimal n)
-spells_decimal n h = decimal_by_steps Spells spells_one spells_more n h
+side_is_number : (n : ℕ) → 1 ≤ n → n ≤ 4096 → IsNumber (decimal n) 4096
+side_is_number n least most =
+    let s = decimal_by_steps Spells spells_one spells_more n (omega arith) in
+    record { digits = s.digits; some = s.some; few = length-decimal-le 9 n (omega arith) (omega arith) (omega arith); least = rw s.value least; most = rw s.value most }
 
--- ---- a number is read
+side_is : (n : ℕ) → n ≤ 4096 → number_of (decimal n) ≡ n
+side_is n most = (decimal_by_steps Spells spells_one spells_more n (omega arith)).value
 
-abbrev pub number : ℕ → ℕ → ℕ → ℕ → Number
-number v first b at = record { value = v; first = first; behind = b; at = at }
+-- ---- samples
 
-pub digits_read : (ds : List ℕ) (first v n b at : ℕ) (t : List ℕ) → at ≡ n + length ds → list_all is_ascii_digit ds ≡ true → at ≤ first + 9 → at ≤ 4096 → is_ascii_digit b ≡ false
-    → number_end first v n (ds ++ b ∷ t) ≡ Ok (number (fold with_digit v ds) first b at, t)
-digits_read [] first v n b at t is all few low other = let e : at ≡ n = omega arith in rw e (number_whole first v n b other t)
-digits_read (d ∷ ds) first v n b at t is all few low other =
-    let p = and_parts (is_ascii_digit d) (list_all is_ascii_digit ds) all in
-    number_on first v n d (omega arith) (omega arith) p.0 (ds ++ b ∷ t) ∙ digits_read ds first (with_digit v d) (n + 1) b at t (omega arith) p.1 few low other
+abbrev written_sample : ℕ → SampleBytes
+written_sample v = record { high = v / 256 % 256; low = v % 256 }
 
-pub digit_ends_gap : (d : ℕ) → is_ascii_digit d ≡ true → in_gap false d ≡ false
-digit_ends_gap d h = grind (arith, nat_tests)
+raster_is : (vs : List ℕ) → flat_map (sample_bytes true) (map written_sample vs) ≡ flat_map (to_be_bytes w16) vs
+raster_is [] = refl
+raster_is (v ∷ vs) = ap (λ (l : List ℕ). v / 256 % 256 ∷ v % 256 ∷ l) (raster_is vs)
 
-number_read : (ds : List ℕ) (v g n b at : ℕ) (t : List ℕ) → Spells v ds → at ≡ n + 1 + length ds → length ds ≤ 9 → n + 10 ≤ 4096 → eqb g 35 ≡ false → is_ascii_digit b ≡ false
-    → number_at g n (ds ++ b ∷ t) ≡ Ok (number v (n + 1) b at, t)
-number_read [] v g n b at t s is few low gap other = absurd (omega (arith, s.some))
-number_read (d ∷ ds) v g n b at t s is few low gap other =
-    let p = and_parts (is_ascii_digit d) (list_all is_ascii_digit ds) s.digits in
-    let first : gap_end (eqb g 35) (n + 1) (d ∷ (ds ++ b ∷ t)) ≡ Ok (mark d (n + 1), ds ++ b ∷ t) = rw gap (gap_digit false (n + 1) d (omega arith) (digit_ends_gap d p.0) p.0 (ds ++ b ∷ t)) in
-    let e : d - 48 ≡ with_digit 0 d = omega arith in
-    let value : fold with_digit (d - 48) ds ≡ v = ap (λ (x : ℕ). fold with_digit x ds) e ∙ s.value in
-    number_parts g n (d ∷ (ds ++ b ∷ t)) ∙ ap (λ (r : Result (Mark × List ℕ) BadPgm). r >>= λ q. number_rest q.0 q.1) first
-    ∙ digits_read ds (n + 1) (d - 48) (n + 1 + 1) b at t (omega arith) p.1 (omega arith) (omega arith) other
-    ∙ ap (λ (x : ℕ). Ok (number x (n + 1) b at, t)) value
+sample_is : (v : ℕ) → v < 2 ^ 16 → sample_of (written_sample v) ≡ v
+sample_is v small = omega arith
 
--- ---- the parts of a header
+samples_are : (vs : List ℕ) → ((i : ℕ) → get_or vs i 0 < 2 ^ 16) → map sample_of (map written_sample vs) ≡ vs
+samples_are [] small = refl
+samples_are (v ∷ vs) small =
+    ap (λ (x : ℕ). x ∷ map sample_of (map written_sample vs)) (sample_is v (small 0)) ∙ ap (λ (l : List ℕ). v ∷ l) (samples_are vs (λ i. small (suc i)))
 
-pub side_ok : (v first b at : ℕ) → starts_gap b ≡ true → 1 ≤ v → v ≤ 4096 → at < 4096 → side_judged (number v first b at) ≡ Ok (number v first b at)
-side_ok v first b at gap some most low =
-    let e : leb 1 v ≡ true = le-leb 1 v some in
-    let f : leb v 4096 ≡ true = le-leb v 4096 most in
-    let h : leb 4096 at ≡ false = lt-leb 4096 at low in
-    rw (gap, e, f, h) refl
-
-pub maxval_ok : (v first b at : ℕ) → is_white b ≡ true → 1 ≤ v → v ≤ 65535 → at < 4096 → maxval_judged (number v first b at) ≡ Ok (number v first b at)
-maxval_ok v first b at gap some most low =
-    let e : leb 1 v ≡ true = le-leb 1 v some in
-    let f : leb v 65535 ≡ true = le-leb v 65535 most in
-    let h : leb 4096 at ≡ false = lt-leb 4096 at low in
-    rw (gap, h, e, f) refl
-
-judged_read : (judge : Number → Result Number BadPgm) (ds : List ℕ) (v g n b at : ℕ) (t : List ℕ) → Spells v ds → at ≡ n + 1 + length ds → length ds ≤ 9 → n + 10 ≤ 4096 → eqb g 35 ≡ false → is_ascii_digit b ≡ false
-    → judge (number v (n + 1) b at) ≡ Ok (number v (n + 1) b at) → judged_at judge g n (ds ++ b ∷ t) ≡ Ok (number v (n + 1) b at, t)
-judged_read judge ds v g n b at t s is few low gap other good =
-    judged_split judge g n (ds ++ b ∷ t) ∙ ap (λ (r : Result (Number × List ℕ) BadPgm). r >>= λ q. judged_rest judge q.0 q.1) (number_read ds v g n b at t s is few low gap other)
-    ∙ ap (λ (r : Result Number BadPgm). r >>= λ j. Ok (j, t)) good
-
--- a header with those digits and single bytes as gaps
-header_read : (dw dh dm : List ℕ) (w h m : ℕ) (t : List ℕ) → Spells w dw → Spells h dh → Spells m dm → length dw ≤ 9 → length dh ≤ 9 → length dm ≤ 9 → 1 ≤ w → w ≤ 4096 → 1 ≤ h → h ≤ 4096 → 1 ≤ m → m ≤ 65535
-    → header_at (80 ∷ 53 ∷ 10 ∷ (dw ++ 32 ∷ (dh ++ 10 ∷ (dm ++ 10 ∷ t)))) ≡ Ok (record { width = w; height = h; most = m; start = (2 + 1 + length dw) + 1 + length dh + 1 + length dm + 1 }, t)
-header_read dw dh dm w h m t sw sh sm lw lh lm w1 w2 h1 h2 m1 m2 =
-    let a = 2 + 1 + length dw in
-    let b = a + 1 + length dh in
-    let c = b + 1 + length dm in
-    let tm = dm ++ 10 ∷ t in
-    let th = dh ++ 10 ∷ tm in
-    let tw = dw ++ 32 ∷ th in
-    let p0 : magic_at (80 ∷ 53 ∷ 10 ∷ tw) ≡ Ok (10, tw) = magic_split (80 ∷ 53 ∷ 10 ∷ tw) in
-    let p1 : judged_at side_judged 10 2 tw ≡ Ok (number w (2 + 1) 32 a, th) = judged_read side_judged dw w 10 2 32 a th sw refl lw (omega arith) refl refl (side_ok w (2 + 1) 32 a refl w1 w2 (omega arith)) in
-    let p2 : judged_at side_judged 32 a th ≡ Ok (number h (a + 1) 10 b, tm) = judged_read side_judged dh h 32 a 10 b tm sh refl lh (omega arith) refl refl (side_ok h (a + 1) 10 b refl h1 h2 (omega arith)) in
-    let p3 : judged_at maxval_judged 10 b tm ≡ Ok (number m (b + 1) 10 c, t) = judged_read maxval_judged dm m 10 b 10 c t sm refl lm (omega arith) refl refl (maxval_ok m (b + 1) 10 c refl m1 m2 (omega arith)) in
-    header_split (80 ∷ 53 ∷ 10 ∷ tw)
-    ∙ ap (λ (r : Result (ℕ × List ℕ) BadPgm). r >>= λ q. header_width q.0 q.1) p0
-    ∙ ap (λ (r : Result (Number × List ℕ) BadPgm). r >>= λ q. header_height q.0 q.1) p1
-    ∙ ap (λ (r : Result (Number × List ℕ) BadPgm). r >>= λ q. header_most (number w (2 + 1) 32 a) q.0 q.1) p2
-    ∙ ap (λ (r : Result (Number × List ℕ) BadPgm). r >>= λ q. Ok (shape (number w (2 + 1) 32 a) (number h (a + 1) 10 b) q.0, q.1)) p3
-
--- ---- the raster
-
-sample_read : (v n : ℕ) (t : List ℕ) → v < 2 ^ 16 → one_sample 65535 n (to_be_bytes w16 v ++ t) ≡ Ok (v, t)
-sample_read v n t h =
-    let e : 256 * (v / 256 % 256) + v % 256 ≡ v = omega arith in
-    let f : leb v 65535 ≡ true = le-leb v 65535 (omega arith) in
-    rw (e, f) refl
-
-raster_read : (vs : List ℕ) (n : ℕ) (t : List ℕ) → ((i : ℕ) → get_or vs i 0 < 2 ^ 16) → raster_at 65535 (length vs) n (flat_map (to_be_bytes w16) vs ++ t) ≡ Ok (vs, t)
-raster_read [] n t small = refl
-raster_read (v ∷ vs) n t small =
+samples_fit : (vs : List ℕ) → ((i : ℕ) → get_or vs i 0 < 2 ^ 16) → All (IsSample 65535) (map written_sample vs)
+samples_fit [] small = λ k d low. absurd (omega arith)
+samples_fit (v ∷ vs) small =
     let first : v < 2 ^ 16 = small 0 in
-    let e : 256 * (v / 256 % 256) + v % 256 ≡ v = omega arith in
-    let f : leb v 65535 ≡ true = le-leb v 65535 (omega arith) in
-    rw (e, f) (ap (with_sample v) (raster_read vs (n + sample_len 65535) t (λ i. small (suc i))))
+    All-cons (IsSample 65535) (written_sample v) (map written_sample vs) (record { narrow = λ narrow. absurd cc; most = omega arith }) (samples_fit vs (λ i. small (suc i)))
 
 -- ---- the file
 
-spells_most : Spells 65535 (codes "65535")
-spells_most = record { digits = refl; value = refl; some = omega arith }
+abbrev one_byte : ℕ → Gap
+one_byte b = record { first = white b; others = [] }
 
-spelled : (p : DepthMap) (t : List ℕ) → pgm_text p ++ t ≡ 80 ∷ 53 ∷ 10 ∷ (decimal p.width ++ 32 ∷ (decimal p.height ++ 10 ∷ (codes "65535" ++ 10 ∷ (flat_map (to_be_bytes w16) p.raw ++ t))))
-spelled p t = simp append_assoc
+abbrev written : DepthMap → File
+written p = record {
+  before_width = one_byte 10;
+  width = decimal p.width;
+  before_height = one_byte 32;
+  height = decimal p.height;
+  before_maxval = one_byte 10;
+  maxval = codes "65535";
+  after_maxval = 10;
+  samples = map written_sample p.raw;
+}
 
-pub file_read : (p : DepthMap) (t : List ℕ) → HasSides p → length p.raw ≡ p.width * p.height → ((i : ℕ) → get_or p.raw i 0 < 2 ^ 16) → pgm_at (pgm_text p ++ t) ≡ Ok (p, t)
-file_read p t sides size small =
-    let few_w : length (decimal p.width) ≤ 9 = length-decimal-le 9 p.width (omega arith) (omega arith) (omega arith) in
-    let few_h : length (decimal p.height) ≤ 9 = length-decimal-le 9 p.height (omega arith) (omega arith) (omega arith) in
-    let start = (2 + 1 + length (decimal p.width)) + 1 + length (decimal p.height) + 1 + length (codes "65535") + 1 in
-    let samples = flat_map (to_be_bytes w16) p.raw ++ t in
-    ap pgm_at (spelled p t) ∙ file_split _
-    ∙ ap (λ (r : Result (Shape × List ℕ) BadPgm). r >>= λ q. file_raster q.0 q.1)
-    (header_read (decimal p.width) (decimal p.height) (codes "65535") p.width p.height 65535 samples (spells_decimal p.width (omega arith)) (spells_decimal p.height (omega arith)) spells_most few_w few_h (omega arith)
-    sides.least_width sides.most_width sides.least_height sides.most_height (omega arith) (omega arith))
-    ∙ ap (λ (k : ℕ). raster_at 65535 k start samples >>= λ q. Ok (record { width = p.width; height = p.height; raw = q.0 }, q.1)) (sym size)
-    ∙ ap (λ (r : Result (List ℕ × List ℕ) BadPgm). r >>= λ q. Ok (record { width = p.width; height = p.height; raw = q.0 }, q.1)) (raster_read p.raw start t small)
+written_bytes : (p : DepthMap) → file_bytes (written p) ≡ pgm_text p
+written_bytes p = ap (λ (l : List ℕ). file_header (written p) ++ l) (raster_is p.raw) ∙ simp append_assoc
 
--- it is so behind any number of bytes
-pub file_read_behind : (start : ℕ) (p : DepthMap) (t : List ℕ) → HasSides p → length p.raw ≡ p.width * p.height → ((i : ℕ) → get_or p.raw i 0 < 2 ^ 16) → pgm_of start (pgm_text p ++ t) ≡ Ok (p, t)
-unfolding pgm_of
-file_read_behind start p t sides size small = ap (turned (placed start)) (file_read p t sides size small)
+written_is_file : (p : DepthMap) → HasSides p → length p.raw ≡ p.width * p.height → ((i : ℕ) → get_or p.raw i 0 < 2 ^ 16) → IsFile (written p)
+written_is_file p sides size small =
+    let w = side_is_number p.width sides.least_width sides.most_width in
+    let h = side_is_number p.height sides.least_height sides.most_height in
+    let header = header_size (gap_bytes (one_byte 10)) (decimal p.width) (gap_bytes (one_byte 32)) (decimal p.height) (gap_bytes (one_byte 10)) (codes "65535") 10 in
+    record {
+      gap_width = refl;
+      width = w;
+      gap_height = refl;
+      height = h;
+      gap_maxval = refl;
+      maxval = record { digits = refl; some = omega arith; few = omega arith; least = omega arith; most = omega arith };
+      white = refl;
+      header = omega (arith, header, w.few, h.few);
+      samples = samples_fit p.raw small;
+      count = rw (side_is p.width sides.most_width, side_is p.height sides.most_height, length-map) size;
+    }
+
+written_map : (p : DepthMap) → HasSides p → ((i : ℕ) → get_or p.raw i 0 < 2 ^ 16) → file_depth_map (written p) ≡ p
+written_map p sides small = rw (side_is p.width sides.most_width, side_is p.height sides.most_height, samples_are p.raw small) refl
+
+-- the file is read after any number of bytes, whatever follows it
+pub written_is_read : (start : ℕ) (p : DepthMap) (t : List ℕ) → HasSides p → length p.raw ≡ p.width * p.height → ((i : ℕ) → get_or p.raw i 0 < 2 ^ 16) → pgm_of start (pgm_text p ++ t) ≡ Ok (p, t)
+written_is_read start p t sides size small =
+    ap (λ (l : List ℕ). pgm_of start (l ++ t)) (sym (written_bytes p)) ∙ file_is_read_after start (written p) t (written_is_file p sides size small) ∙ ap (λ (q : DepthMap). Ok (q, t)) (written_map p sides small)

@@ -1,9 +1,10 @@
 -- How the file of a depth map is put together: a binary PGM (Netpbm), with limits of this project's own.
 use Rattle.std.specs.Prelude.{◌≡◌, ℕ, ◌+◌, ◌*◌, ◌≤◌, ◌||◌, ◌&&◌, ◌==◌, not, Bool, true, false, if◌then◌else◌, List, [], ◌∷◌, ◌++◌, map, length, codes}
 use Rattle.std.specs.Char.{is_ascii_digit}
-use Rattle.std.specs.List.{All, flat_map, fold, list_all}
+use Rattle.std.specs.List.{All, flat_map, list_all}
+use Rattle.fixed_geom.specs.Decimal.{number_of}
 use Rattle.depth_frame.specs.DepthMaps.{DepthMap}
-use Rattle.depth_frame.specs.Pgm.{is_white, is_wide, with_digit}
+use Rattle.depth_frame.specs.Pgm.{is_white, is_wide}
 
 -- ---- gaps
 
@@ -40,10 +41,6 @@ abbrev pub is_gap : Gap → Bool
 is_gap g = is_piece g.first && list_all is_piece g.others
 
 -- ---- numbers
-
--- the number that decimal digits write
-abbrev pub number_of : List ℕ → ℕ
-number_of digits = fold with_digit 0 digits
 
 -- one to nine digits whose number is from 1 to the greatest
 pub record IsNumber (bytes : List ℕ) (greatest : ℕ) : Type 0 where
@@ -83,12 +80,12 @@ pub record File : Type 0 where
   pub height : List ℕ
   pub before_maxval : Gap
   pub maxval : List ℕ
-  pub behind_maxval : ℕ
+  pub after_maxval : ℕ
   pub samples : List SampleBytes
 
--- all up to and with the white byte behind the maxval
+-- all up to and with the white byte after the maxval
 abbrev pub file_header : File → List ℕ
-file_header f = codes "P5" ++ (gap_bytes f.before_width ++ (f.width ++ (gap_bytes f.before_height ++ (f.height ++ (gap_bytes f.before_maxval ++ (f.maxval ++ f.behind_maxval ∷ []))))))
+file_header f = codes "P5" ++ (gap_bytes f.before_width ++ (f.width ++ (gap_bytes f.before_height ++ (f.height ++ (gap_bytes f.before_maxval ++ (f.maxval ++ f.after_maxval ∷ []))))))
 
 -- the bytes of the samples
 abbrev pub file_raster : File → List ℕ
@@ -106,7 +103,7 @@ pub record IsFile (f : File) : Type 0 where
   pub height : IsNumber f.height 4096
   pub gap_maxval : is_gap f.before_maxval ≡ true
   pub maxval : IsNumber f.maxval 65535
-  pub white : is_white f.behind_maxval ≡ true
+  pub white : is_white f.after_maxval ≡ true
   pub header : length (file_header f) ≤ 4096
   pub samples : All (IsSample (number_of f.maxval)) f.samples
   pub count : length f.samples ≡ number_of f.width * number_of f.height

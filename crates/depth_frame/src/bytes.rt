@@ -3,12 +3,13 @@ ghost use Rattle.depth_frame.specs.DepthMaps.{depth_map_of};
 ghost use Rattle.depth_frame.specs.Pgm.{HasSides, IsReadAgain, pgm_text};
 
 use crate::DepthFrame;
+use byteorder::{BigEndian, ByteOrder};
 use itoa::Buffer;
 use scan_io::NoMemory;
 use std::alloc::{AllocError, Global};
 
-/// The binary PGM (Netpbm) of a depth map: the greatest sample is said to be 65535, so each has two bytes, the most
-/// significant first. With sides from 1 to 4096 it is read again as that depth map, whatever follows it.
+/// The binary PGM (Netpbm) of a depth map. Its maxval is 65535, so each sample has two bytes, the most significant first.
+/// With sides from 1 to 4096 it is read again as that depth map, whatever follows it.
 pub fn pgm_bytes(alloc: Global, frame: &DepthFrame) -> Result<Vec<u8>, NoMemory>
     ensures bytes { IfOk result (λ b. b.items ≡ pgm_text frame.now) }
     ensures again { IfOk result (λ b. HasSides frame.now → IsReadAgain frame.now b.items) }
@@ -36,8 +37,10 @@ fn file_bytes(
     bytes.extend_from_slice(b" ")?;
     bytes.extend_from_slice(Buffer::new().format(height).as_bytes())?;
     bytes.extend_from_slice(b"\n65535\n")?;
+    let mut pair = [0; 2];
     for sample in samples {
-        bytes.extend_from_slice(&sample.to_be_bytes())?;
+        BigEndian::write_u16(&mut pair, *sample);
+        bytes.extend_from_slice(&pair)?;
     }
     Ok(bytes)
 }

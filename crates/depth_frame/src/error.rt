@@ -7,23 +7,23 @@ use std::alloc::{AllocError, AllocFailed};
 /// What is bad in the file of a depth map.
 #[derive(Clone, Copy, Debug, PartialEq, Eq)]
 pub enum PgmKind {
-    /// The first two bytes are not `P5`; the place is that of the first.
+    /// The first two bytes are not `P5`; `at` is the first of them.
     Magic,
-    /// The header has a byte that does not belong there, or a tenth digit, or it goes on behind its 4096 bytes, and the
-    /// place is that of the byte; or a side is not from 1 to 4096, and the place is that of its first digit.
+    /// The header has a byte that does not belong there, or a tenth digit, or a byte after its 4096 bytes, and `at` is
+    /// that byte; or a side is not from 1 to 4096, and `at` is its first digit.
     Header,
-    /// The greatest sample is not from 1 to 65535; the place is that of its first digit.
+    /// The maxval is not from 1 to 65535; `at` is its first digit.
     Maxval,
-    /// A sample is above the greatest one; the place is that of its first byte.
+    /// A sample is above the maxval; `at` is its first byte.
     Sample,
-    /// The input ends inside the file; the place is that end.
+    /// The input ends inside the file; `at` is that end.
     Short,
 }
 
 /// Where and how the file of a depth map is bad.
 #[derive(Clone, Copy, Debug, PartialEq, Eq)]
 pub struct BadPgm {
-    /// The place, in bytes from the first one that the feed gave, held at the greatest number.
+    /// The offset, in bytes from the first one that the feed gave; it saturates at `2^64 - 1`.
     pub at: u64,
     /// What is bad there.
     pub kind: PgmKind,
@@ -36,7 +36,7 @@ pub enum PgmError {
     Bad(BadPgm),
     /// The source failed, and counted it.
     ReadFault,
-    /// Memory is wanting.
+    /// Out of memory.
     NoMemory,
 }
 

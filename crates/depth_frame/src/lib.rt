@@ -12,7 +12,7 @@ mod samples;
 pub use bytes::pgm_bytes;
 pub use error::{BadPgm, PgmError, PgmKind};
 pub use frame::DepthFrame;
-pub use pgm::{files_are_read, read_pgm};
+pub use pgm::{files_are_read, other_refusals_stay, read_pgm, short_is_at_the_end};
 
 #[cfg(test)]
 mod tests;

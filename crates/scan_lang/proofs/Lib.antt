@@ -1,4 +1,5 @@
 mod ConfigLemmas
+mod FrontLemmas
 mod LineLemmas
 mod ReaderLemmas
 pub mod RecordLemmas

@@ -1,6 +1,6 @@
 -- The words of a line, found one after another, and the numbers that they write.
-use Rattle.std.proofs.Common.{◌≡◌, ℕ, suc, ◌≤◌, ◌<◌, ◌+◌, ◌-◌, ℤ, List, [], ◌∷◌, ◌++◌, length, take, drop, Bool, true, false, not, eqb, ltb, None, Some, Result, Ok, Err, refl, sym, ap, ◌∙◌, cond, append_assoc, length-drop, arith}
-use Rattle.std.proofs.lemmas.List.{append-nil, drop-drop, take_all}
+use Rattle.std.proofs.Common.{◌≡◌, ℕ, suc, ◌≤◌, ◌<◌, ◌+◌, ◌-◌, ℤ, List, [], ◌∷◌, ◌++◌, length, take, drop, Bool, true, false, not, eqb, ltb, None, Some, Result, Ok, refl, sym, ap, ◌∙◌, cond, length-drop, arith}
+use Rattle.std.proofs.lemmas.List.{drop-drop, take_all}
 use Rattle.std.proofs.lemmas.List.Sums.{prefix_len-le-length}
 use Rattle.std.proofs.lemmas.List.Folds.{length-prefix_len}
 use Rattle.std.proofs.lemmas.Bool.Decides.{nat_tests}
@@ -9,8 +9,8 @@ use Rattle.std.specs.Option.{unwrap_or}
 use Rattle.scan_io.specs.Steps.{◌>>=◌}
 use Rattle.scan_lang.specs.declared.error.BadScan.{BadScan}
 use Rattle.scan_lang.specs.declared.words.Span.{Span}
-use Rattle.scan_lang.specs.Words.{is_blank, Word, words_in, number_at, numbers_from}
-use Rattle.scan_lang.specs.Spans.{words_behind, words_with}
+use Rattle.scan_lang.specs.Words.{is_blank, Word, words_in}
+use Rattle.scan_lang.specs.Spans.{words_from, words_with}
 
 abbrev pub is_inside : ℕ → Bool
 is_inside b = not (is_blank b)
@@ -21,7 +21,7 @@ first_or : (n m : ℕ) (test : Bool) → ltb n m ≡ test → n ≤ m → unwrap
 first_or n m true e fits = refl
 first_or n m false e fits = grind (arith, nat_tests)
 
--- the first place, or the length
+-- the first index, or the length
 pub position_or : (p : ℕ → Bool) (text : List ℕ) → unwrap_or (position p text) (length text) ≡ position_or_len p text
 position_or p text = first_or (position_or_len p text) (length text) (ltb (position_or_len p text) (length text)) refl (prefix_len-le-length (λ b. not (p b)) text)
 
@@ -62,22 +62,22 @@ skipped at (b ∷ text) = skip_step at b text (is_blank b) refl (skipped (at + 1
 -- ---- one word
 
 -- the pieces of a rest, which is empty or begins with a blank
-abbrev pieces_behind : List ℕ → List (List ℕ)
-pieces_behind [] = []
-pieces_behind (b ∷ text) = slice_split is_blank text
+abbrev pieces_after : List ℕ → List (List ℕ)
+pieces_after [] = []
+pieces_after (b ∷ text) = slice_split is_blank text
 
-first_step : (b : ℕ) (text : List ℕ) (test : Bool) → is_blank b ≡ test → slice_split is_blank text ≡ before_first is_blank text ∷ pieces_behind (drop (position_or_len is_blank text) text)
-    → slice_split is_blank (b ∷ text) ≡ before_first is_blank (b ∷ text) ∷ pieces_behind (drop (position_or_len is_blank (b ∷ text)) (b ∷ text))
+first_step : (b : ℕ) (text : List ℕ) (test : Bool) → is_blank b ≡ test → slice_split is_blank text ≡ before_first is_blank text ∷ pieces_after (drop (position_or_len is_blank text) text)
+    → slice_split is_blank (b ∷ text) ≡ before_first is_blank (b ∷ text) ∷ pieces_after (drop (position_or_len is_blank (b ∷ text)) (b ∷ text))
 first_step b text true e ih = rw e refl
 first_step b text false e ih =
     let n : 1 + position_or_len is_blank text ≡ suc (position_or_len is_blank text) = omega arith in
     rw (e, n) (ap (onto_first b) ih)
 
-pieces_first : (text : List ℕ) → slice_split is_blank text ≡ before_first is_blank text ∷ pieces_behind (drop (position_or_len is_blank text) text)
+pieces_first : (text : List ℕ) → slice_split is_blank text ≡ before_first is_blank text ∷ pieces_after (drop (position_or_len is_blank text) text)
 pieces_first [] = refl
 pieces_first (b ∷ text) = first_step b text (is_blank b) refl (pieces_first text)
 
-rest_words : (at : ℕ) (rest : List ℕ) → Begins is_blank rest → words_in (at + 1) (pieces_behind rest) ≡ words_in at (slice_split is_blank rest)
+rest_words : (at : ℕ) (rest : List ℕ) → Begins is_blank rest → words_in (at + 1) (pieces_after rest) ≡ words_in at (slice_split is_blank rest)
 rest_words at [] begins = refl
 rest_words at (b ∷ rest) begins = rw begins refl
 
@@ -89,7 +89,7 @@ piece_in at n piece pieces size some = let e : eqb n 0 ≡ false = grind (arith,
 
 word_first : (at n : ℕ) (text : List ℕ) → n ≡ position_or_len is_blank text → 0 < n → words_in at (slice_split is_blank text) ≡ record { at = at; bytes = take n text } ∷ words_in (at + n) (slice_split is_blank (drop n text))
 word_first at n text is some =
-    rw (pieces_first text, ← is) (piece_in at n (take n text) (pieces_behind (drop n text)) (rw is (length-prefix_len (λ b. not (is_blank b)) text)) some
+    rw (pieces_first text, ← is) (piece_in at n (take n text) (pieces_after (drop n text)) (rw is (length-prefix_len (λ b. not (is_blank b)) text)) some
     ∙ ap (λ (ws : List Word). record { at = at; bytes = take n text } ∷ ws) (rest_words (at + n) (drop n text) (rw is (stops is_blank text))))
 
 not_blank : (test : Bool) → not test ≡ true → test ≡ false
@@ -109,23 +109,23 @@ on_word start stop (b ∷ text) line is end begins =
     word_first start (stop - start) (b ∷ text) n more ∙ rw (e, rest, stops_at, is) refl
 
 -- blanks are skipped, and then comes a word
-pub word_found : (line : List ℕ) (from start stop : ℕ) → start ≡ from + position_or_len is_inside (drop from line) → stop ≡ start + position_or_len is_blank (drop start line) → words_behind from line ≡ words_with line (record { start = start; end = stop })
+pub word_found : (line : List ℕ) (from start stop : ℕ) → start ≡ from + position_or_len is_inside (drop from line) → stop ≡ start + position_or_len is_blank (drop start line) → words_from from line ≡ words_with line (record { start = start; end = stop })
 word_found line from start stop begin end =
     let rest : drop (position_or_len is_inside (drop from line)) (drop from line) ≡ drop start line = drop-drop (position_or_len is_inside (drop from line)) from line ∙ ap (λ (k : ℕ). drop k line) (sym begin) in
     skipped from (drop from line) ∙ rw (rest, ← begin) (on_word start stop (drop start line) line refl end (rw rest at (stops is_inside (drop from line))))
 
--- what a slice from a place on is
+-- what a slice from an index on is
 pub rest_of : (from : ℕ) (line : List ℕ) → take (length line - from) (drop from line) ≡ drop from line
 rest_of from line = take_all (length line - from) (drop from line) (simp length-drop (omega arith))
 
 -- ---- how many words there are
 
-count_on : (line : List ℕ) (s : Span) (test : Bool) → eqb s.start s.end ≡ test → length (words_with line s) ≡ cond test 0 (1 + length (words_behind s.end line))
+count_on : (line : List ℕ) (s : Span) (test : Bool) → eqb s.start s.end ≡ test → length (words_with line s) ≡ cond test 0 (1 + length (words_from s.end line))
 count_on line s true e = rw e refl
 count_on line s false e = rw e (omega arith)
 
--- there is no word, or there is one more than behind it
-pub count_with : (line : List ℕ) (s : Span) → length (words_with line s) ≡ cond (eqb s.start s.end) 0 (1 + length (words_behind s.end line))
+-- there is no word, or one more than after it
+pub count_with : (line : List ℕ) (s : Span) → length (words_with line s) ≡ cond (eqb s.start s.end) 0 (1 + length (words_from s.end line))
 count_with line s = count_on line s (eqb s.start s.end) refl
 
 -- ---- the numbers
@@ -133,44 +133,3 @@ count_with line s = count_on line s (eqb s.start s.end) refl
 -- the numbers so far, and those that are still to be read
 abbrev pub numbers_onto : List ℤ → Result (List ℤ) BadScan → Result (List ℤ) BadScan
 numbers_onto ns r = r >>= λ more. Ok (ns ++ more)
-
-onto_none : (r : Result (List ℤ) BadScan) → r ≡ numbers_onto [] r
-onto_none (Ok ns) = refl
-onto_none (Err why) = refl
-
-pub numbers_begin : (place : ℕ) (ws : List Word) → numbers_from place 0 ws ≡ numbers_onto [] (numbers_from place 0 ws)
-numbers_begin place ws = onto_none (numbers_from place 0 ws)
-
-onto_more : (ns : List ℤ) (n : ℤ) (r : Result (List ℤ) BadScan) → numbers_onto ns (r >>= λ more. Ok (n ∷ more)) ≡ numbers_onto (ns ++ n ∷ []) r
-onto_more ns n (Ok more) = rw append_assoc refl
-onto_more ns n (Err why) = refl
-
--- the word of a span that is not empty
-abbrev pub word_at : List ℕ → Span → Word
-word_at line s = record { at = s.start; bytes = take (s.end - s.start) (drop s.start line) }
-
-some_there : (test : Bool) (n : ℕ) → 0 < cond test 0 n → test ≡ false
-some_there true n some = absurd (omega arith)
-some_there false n some = refl
-
-with_word : (line : List ℕ) (s : Span) → 0 < length (words_with line s) → words_with line s ≡ word_at line s ∷ words_behind s.end line
-with_word line s some = let e : eqb s.start s.end ≡ false = some_there (eqb s.start s.end) (1 + length (words_behind s.end line)) (rw (count_with line s) at some) in rw e refl
-
--- the next word writes a number
-pub numbers_more : (place index : ℕ) (line : List ℕ) (ns : List ℤ) (n : ℤ) (from : ℕ) (s : Span) → words_behind from line ≡ words_with line s → 0 < length (words_behind from line) → number_at place index (word_at line s) ≡ Ok n
-    → numbers_onto ns (numbers_from place index (words_behind from line)) ≡ numbers_onto (ns ++ n ∷ []) (numbers_from place (index + 1) (words_behind s.end line))
-numbers_more place index line ns n from s is some number =
-    rw (is, with_word line s (rw is at some), number) (onto_more ns n (numbers_from place (index + 1) (words_behind s.end line)))
-
--- it writes none
-pub numbers_bad : (place index : ℕ) (line : List ℕ) (ns : List ℤ) (why : BadScan) (from : ℕ) (s : Span) → words_behind from line ≡ words_with line s → 0 < length (words_behind from line) → number_at place index (word_at line s) ≡ Err why
-    → numbers_onto ns (numbers_from place index (words_behind from line)) ≡ Err why
-numbers_bad place index line ns why from s is some number = rw (is, with_word line s (rw is at some), number) refl
-
-no_words : (place index : ℕ) (ns : List ℤ) (ws : List Word) → length ws ≡ 0 → numbers_onto ns (numbers_from place index ws) ≡ Ok ns
-no_words place index ns [] none = rw append-nil refl
-no_words place index ns (w ∷ ws) none = absurd (omega arith)
-
--- no word is left
-pub numbers_whole : (place index : ℕ) (line : List ℕ) (ns : List ℤ) (from : ℕ) → length (words_behind from line) ≡ 0 → numbers_onto ns (numbers_from place index (words_behind from line)) ≡ Ok ns
-numbers_whole place index line ns from none = no_words place index ns (words_behind from line) none

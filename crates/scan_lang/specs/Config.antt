@@ -7,14 +7,14 @@ use Rattle.serde_json.specs.Data.{Data, Members}
 use Rattle.serde_json.specs.Read.{read}
 use Rattle.serde_json.specs.Find.{get, as_number, as_i64, as_object}
 use Rattle.serde_json.specs.Events.{members_len}
-use Rattle.scan_io.specs.Reading.{turned}
+use Rattle.scan_io.specs.Reading.{Cause, refused, no_memory, turned}
 use Rattle.scan_io.specs.Steps.{◌>>=◌}
 use Rattle.camera.specs.declared.camera.CameraFields.{CameraFields}
 use Rattle.scan_lang.specs.declared.config.BadConfig.{BadConfig}
 use Rattle.scan_lang.specs.declared.config.BadConfig.TheVariants.{Json, Names, Field, Reach, Sphere}
 use Rattle.scan_lang.specs.declared.config.ConfigError.{ConfigError}
 use Rattle.scan_lang.specs.declared.config.ConfigError.TheVariants as errors
-use Rattle.scan_lang.specs.declared.config.Fields.{Fields}
+use Rattle.scan_lang.specs.declared.config.ConfigFields.{ConfigFields}
 use Rattle.camera.specs.declared.camera.BadCamera.{BadCamera}
 use Rattle.camera.specs.declared.camera.BadCamera.TheVariants as cameras
 use Rattle.camera.specs.Cameras.{within, IsCamera}
@@ -24,11 +24,10 @@ use Rattle.camera.specs.Opening.{first_failing, camera_of}
 abbrev pub names : List (List ℕ)
 names = codes "version" ∷ codes "width" ∷ codes "height" ∷ codes "fx" ∷ codes "fy" ∷ codes "cx" ∷ codes "cy" ∷ codes "unit" ∷ codes "near" ∷ codes "far" ∷ codes "voxel" ∷ codes "mu" ∷ codes "radius" ∷ codes "centre" ∷ codes "max_weight" ∷ codes "heap_blocks" ∷ codes "buckets" ∷ codes "empty_f" ∷ []
 
--- what a function answered, under a view, is what the definition says, unless memory ran out
-abbrev pub Gives : {X Y : Type 0} → (X → Y) → Result X ConfigError → Result Y BadConfig → Type 0
-Gives view (Ok x) config = config ≡ Ok (view x)
-Gives view (Err errors.NoMemory) config = Unit {0}
-Gives view (Err (errors.Bad bad)) config = config ≡ Err bad
+-- which cause an error is
+abbrev pub config_cause : ConfigError → Cause BadConfig
+config_cause (errors.Bad why) = refused why
+config_cause errors.NoMemory = no_memory
 
 -- ---- the object
 
@@ -75,7 +74,7 @@ camera_fields_of d = do
   centre ← integer_at (codes "centre") 14 d
   Ok (record { width = width; height = height; fx = fx; fy = fy; cx = cx; cy = cy; unit = unit; near = near; far = far; voxel = voxel; mu = mu; radius = radius; centre = centre })
 
-unfoldable pub fields_of : Data → Result Fields BadConfig
+unfoldable pub fields_of : Data → Result ConfigFields BadConfig
 fields_of d = do
   version ← integer_at (codes "version") 1 d
   camera ← camera_fields_of d
@@ -95,10 +94,10 @@ refuse_field (Some n) = Err (Field n)
 abbrev pub passed : ℕ → List Bool → Result ⊤ BadConfig
 passed n tests = refuse_field (first_failing n tests)
 
-unfoldable pub version_tests : Fields → List Bool
+unfoldable pub version_tests : ConfigFields → List Bool
 version_tests f = within (pos 1) (pos 1) f.version ∷ []
 
-unfoldable pub limit_tests : Fields → List Bool
+unfoldable pub limit_tests : ConfigFields → List Bool
 limit_tests f =
     within (pos 1) (pos 255) f.max_weight
     ∷ within (pos 1) (pos 65536) f.heap_blocks
@@ -124,11 +123,11 @@ pub record Config : Type 0 where
   pub empty_f : ℤ
 
 -- the configuration that the fields make
-abbrev pub made : Fields → Config
+abbrev pub made : ConfigFields → Config
 made f = record { version = unsigned_abs f.version; camera = f.camera; max_weight = unsigned_abs f.max_weight; heap_blocks = unsigned_abs f.heap_blocks; buckets = unsigned_abs f.buckets; empty_f = f.empty_f }
 
 -- the configuration of the fields, or the first of all tests that fails, in this order
-unfoldable pub checked : Fields → Result Config BadConfig
+unfoldable pub checked : ConfigFields → Result Config BadConfig
 checked f = do
   version ← passed 1 (version_tests f)
   camera ← turned bad_camera (camera_of f.camera)

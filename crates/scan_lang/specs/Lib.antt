@@ -1,6 +1,8 @@
 pub mod Config
+pub mod Entries
+pub mod Laws
 pub mod Lines
-pub mod Places
+pub mod Offsets
 pub mod Readers
 pub mod Replies
 pub mod Scan

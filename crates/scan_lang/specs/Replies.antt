@@ -8,11 +8,11 @@ use Rattle.scan_lang.specs.declared.reply.Totals.{Totals}
 use Rattle.scan_lang.specs.declared.reply.Reply.{Reply}
 use Rattle.scan_lang.specs.declared.reply.Reply.TheVariants as replies
 
--- the number of the frame, the number of blocks, and how many of them are active for it
+-- the number of the frame, the number of blocks, and the number of those that are active for it
 abbrev pub frame_text : FrameDone → List ℕ
 frame_text d = codes "frame " ++ decimal d.frame ++ codes " blocks " ++ decimal d.blocks ++ codes " resident " ++ decimal d.resident ++ codes "\n"
 
--- the greatest number of active blocks, which a frame would have passed
+-- the greatest number of active blocks, which the frame would exceed
 abbrev pub heap_text : (limit : ℕ) → List ℕ
 heap_text limit = codes "frame refused heap " ++ decimal limit ++ codes "\n"
 

@@ -4,14 +4,14 @@ use Rattle.std.specs.List.{slice_split}
 use Rattle.scan_lang.specs.declared.words.Span.{Span}
 use Rattle.scan_lang.specs.Words.{is_blank, Word, words_in}
 
--- the bytes of a line from the start of a span on, and before its end
+-- the bytes of a line from the start of a span to its end
 abbrev pub bytes_of : (line : List ℕ) → Span → List ℕ
 bytes_of line s = take (s.end - s.start) (drop s.start line)
 
--- the words of a line from a place in it on
-abbrev pub words_behind : (from : ℕ) → (line : List ℕ) → List Word
-words_behind from line = words_in from (slice_split is_blank (drop from line))
+-- the words of a line from an index on
+abbrev pub words_from : (from : ℕ) → (line : List ℕ) → List Word
+words_from from line = words_in from (slice_split is_blank (drop from line))
 
--- the word of a span and those behind it; there are none where the span is empty
+-- the word of a span and those after it; there are none where the span is empty
 abbrev pub words_with : (line : List ℕ) → Span → List Word
-words_with line s = if s.start == s.end then [] else record { at = s.start; bytes = bytes_of line s } ∷ words_behind s.end line
+words_with line s = if s.start == s.end then [] else record { at = s.start; bytes = bytes_of line s } ∷ words_from s.end line

@@ -1,39 +1,67 @@
 ghost use Rattle.std.specs.Prelude.{◌≡◌, ◌+◌, ◌<◌, pos, Ok, Err, ok_or, is_some, length, unsigned_abs, IfOk};
 ghost use Rattle.serde_json.specs.View.{view};
-ghost use Rattle.scan_io.specs.Reading.{turned};
+ghost use Rattle.scan_io.specs.Reading.{UnlessOutOfMemory, turned};
 ghost use Rattle.camera.specs.Cameras.{within as is_within, IsCamera};
 ghost use Rattle.camera.specs.Opening.{camera_of};
-ghost use Rattle.scan_lang.specs.Config.{Gives, object_of, named, is_named as has_only_names, has_names as has_all_names, integer_at, camera_fields_of, fields_of, passed, version_tests, limit_tests, made, checked, bad_camera, config_in as config_in_object, config_of, IsConfig};
+ghost use Rattle.scan_lang.specs.Config.{config_cause, object_of, named, is_named as has_only_names, has_names as has_all_names, integer_at, camera_fields_of, fields_of, passed, version_tests, limit_tests, made, checked, bad_camera, config_in as config_in_object, config_of, IsConfig};
 ghost use Rattle.scan_lang.specs.declared.config.ConfigError.TheVariants.{Bad};
 
 use camera::{BadCamera, Camera, CameraFields, first_failing};
 use serde_json::Value;
 use std::alloc::Global;
+use std::error::Error;
+use std::fmt;
 use std::marker::Model;
 
 /// Why a configuration is refused. A field's number is that of the table in docs/SCAN.md.
 #[derive(Clone, Copy, Debug, PartialEq, Eq)]
 pub enum BadConfig {
-    /// The line is not JSON, or no object.
+    /// The line is not JSON, or not an object.
     Json,
-    /// A name is missing, or another name is there.
+    /// A name is missing, or there is an unknown one.
     Names,
-    /// The field of this number is no whole number of 64 bits, or out of its range.
+    /// The field of this number is not a whole number of 64 bits, or is out of its range.
     Field(u8),
     /// A frame may touch what lies more than 17 metres from the axis.
     Reach,
-    /// A frame may touch what does not lie in the active sphere.
+    /// A frame may touch what lies outside the active sphere.
     Sphere,
 }
 
 /// Why no configuration was read.
 #[derive(Clone, Copy, Debug, PartialEq, Eq)]
 pub enum ConfigError {
-    /// The line is no configuration.
+    /// The line is not a configuration.
     Bad(BadConfig),
-    /// Memory is wanting.
+    /// Out of memory.
     NoMemory,
 }
+
+impl fmt::Display for BadConfig {
+    fn fmt<W: fmt::Write>(&self, f: &mut fmt::Formatter<W>) -> fmt::Result {
+        match self {
+            BadConfig::Json => write!(f, "it is not a JSON object"),
+            BadConfig::Names => write!(f, "a name is missing, or unknown"),
+            BadConfig::Field(number) => write!(f, "field {number} is out of its range"),
+            BadConfig::Reach => write!(
+                f,
+                "a frame may touch what lies more than 17 metres from the axis"
+            ),
+            BadConfig::Sphere => write!(f, "a frame may touch what lies outside the active sphere"),
+        }
+    }
+}
+
+impl fmt::Display for ConfigError {
+    fn fmt<W: fmt::Write>(&self, f: &mut fmt::Formatter<W>) -> fmt::Result {
+        match self {
+            ConfigError::Bad(why) => write!(f, "{why}"),
+            ConfigError::NoMemory => write!(f, "out of memory"),
+        }
+    }
+}
+
+impl Error for ConfigError {}
 
 impl From<BadConfig> for ConfigError {
     ghost from_gives = { λ why e. e ≡ Bad why };
@@ -43,18 +71,24 @@ impl From<BadConfig> for ConfigError {
     }
 }
 
-/// All fields as the line has them.
+/// The fields of a configuration, before they are tested. docs/SCAN.md has their ranges.
 #[derive(Clone, Copy, Debug, PartialEq, Eq)]
-pub struct Fields {
+pub struct ConfigFields {
+    /// The version of the rules, 1.
     pub version: i64,
+    /// The camera and the space around it.
     pub camera: CameraFields,
+    /// The greatest weight of a voxel.
     pub max_weight: i64,
+    /// The number of blocks that may be active for a frame.
     pub heap_blocks: i64,
+    /// The number of buckets of the hash of blocks.
     pub buckets: i64,
+    /// The least size of a distance in an empty block; 32767 is the truncation distance.
     pub empty_f: i64,
 }
 
-/// What a scan is read and fused by. Every field is in its range, and the camera passed the opening test.
+/// The configuration of a scan. Every field is in its range, and the camera passed the opening test.
 #[derive(Clone, Copy, Debug)]
 pub struct Config {
     version: u8,
@@ -78,14 +112,27 @@ impl Model for Config {
 }
 
 impl Config {
-    /// The version, which says what the truncation band is.
+    /// The configuration of these fields, or the first test that they fail: the version, the camera's tests, then the
+    /// ranges of the other fields.
+    #[tactic(auto, unfolding(crate::specs::Config::checked))]
+    pub fn make(fields: ConfigFields) -> Result<Config, BadConfig>
+        ensures value { result ≡ checked fields }
+        ensures known { IfOk result IsConfig }
+    {
+        check_version(&fields)?;
+        let camera = make_camera(fields.camera)?;
+        check_limits(&fields)?;
+        Ok(made_from(&fields, camera))
+    }
+
+    /// The version of the rules.
     pub fn version(&self) -> u8
         ensures { result ≡ self.now.version }
     {
         self.version
     }
 
-    /// The camera and the space round it.
+    /// The camera and the space around it.
     pub fn camera(&self) -> &Camera
         ensures value { result.now ≡ self.now.camera }
         ensures config { IsConfig self.now }
@@ -101,7 +148,7 @@ impl Config {
         self.max_weight
     }
 
-    /// How many blocks may be active for a frame, from 1 to 65536.
+    /// The number of blocks that may be active for a frame, from 1 to 65536.
     pub fn heap_blocks(&self) -> u32
         ensures value { result ≡ self.now.heap_blocks }
         ensures config { IsConfig self.now }
@@ -117,7 +164,7 @@ impl Config {
         self.buckets
     }
 
-    /// A block whose distances all have at least this size holds no surface; it is from 0 to 32767.
+    /// A block whose distances all have at least this size holds no surface; from 0 to 32767.
     pub fn empty_f(&self) -> i16
         ensures value { result ≡ self.now.empty_f }
         ensures config { IsConfig self.now }
@@ -147,11 +194,11 @@ const NAMES: [&str; 18] = [
     "empty_f",
 ];
 
-/// The configuration that the line is: one JSON object with eighteen names, each with a whole number in its range. Else
-/// it is the first of its tests that fails.
+/// Reads a configuration from a line: one JSON object with eighteen names, each with a whole number in its range. A
+/// line that is none is refused by the first test that it fails.
 #[tactic(auto, unfolding(crate::specs::Config::config_of))]
 pub fn read_config(alloc: Global, line: &[u8]) -> Result<Config, ConfigError>
-    ensures config { Gives (λ c. c) result (config_of line.now) }
+    ensures config { UnlessOutOfMemory config_cause (λ c. c) result (config_of line.now) }
     ensures known { IfOk result IsConfig }
 {
     let value = read_object(alloc, line)?;
@@ -160,7 +207,7 @@ pub fn read_config(alloc: Global, line: &[u8]) -> Result<Config, ConfigError>
 
 #[tactic(auto, unfolding(crate::specs::Config::object_of))]
 fn read_object(alloc: Global, line: &[u8]) -> Result<Value, ConfigError>
-    ensures { Gives view result (object_of line.now) }
+    ensures { UnlessOutOfMemory config_cause view result (object_of line.now) }
 {
     match Value::from_slice(alloc, line) {
         Ok(value) => {
@@ -186,8 +233,7 @@ fn config_in(value: &Value) -> Result<Config, BadConfig>
     ensures known { IfOk result IsConfig }
 {
     check_names(value)?;
-    let fields = read_fields(value)?;
-    check(&fields)
+    Config::make(read_fields(value)?)
 }
 
 #[tactic(auto, unfolding(crate::specs::Config::named))]
@@ -248,10 +294,10 @@ fn read_camera_fields(value: &Value) -> Result<CameraFields, BadConfig>
 }
 
 #[tactic(auto, unfolding(crate::specs::Config::fields_of))]
-fn read_fields(value: &Value) -> Result<Fields, BadConfig>
+fn read_fields(value: &Value) -> Result<ConfigFields, BadConfig>
     ensures { result ≡ fields_of (view value.now) }
 {
-    Ok(Fields {
+    Ok(ConfigFields {
         version: integer(value, "version", 1)?,
         camera: read_camera_fields(value)?,
         max_weight: integer(value, "max_weight", 15)?,
@@ -279,14 +325,14 @@ fn all_passed(tests: &[bool], first: u8) -> Result<(), BadConfig>
 }
 
 #[tactic(auto, unfolding(crate::specs::Config::version_tests))]
-fn check_version(f: &Fields) -> Result<(), BadConfig>
+fn check_version(f: &ConfigFields) -> Result<(), BadConfig>
     ensures { result ≡ passed 1 (version_tests f.now) }
 {
     all_passed(&[within(1, 1, f.version)], 1)
 }
 
 #[tactic(auto, unfolding(crate::specs::Config::limit_tests))]
-fn check_limits(f: &Fields) -> Result<(), BadConfig>
+fn check_limits(f: &ConfigFields) -> Result<(), BadConfig>
     ensures { result ≡ passed 15 (limit_tests f.now) }
 {
     let tests = [
@@ -298,33 +344,18 @@ fn check_limits(f: &Fields) -> Result<(), BadConfig>
     all_passed(&tests, 15)
 }
 
-// All tests, in their order.
-#[tactic(auto, unfolding(crate::specs::Config::checked))]
-fn check(f: &Fields) -> Result<Config, BadConfig>
-    ensures value { result ≡ checked f.now }
-    ensures known { IfOk result IsConfig }
-{
-    check_version(f)?;
-    let camera = make_camera(f.camera)?;
-    check_limits(f)?;
-    Ok(made_from(f, camera))
-}
-
 // The configuration of fields that passed all tests.
-fn made_from(f: &Fields, camera: Camera) -> Config
-    requires version { passed 1 (version_tests f.now) ≡ Ok tt }
-    requires limits { passed 15 (limit_tests f.now) ≡ Ok tt }
+fn made_from(f: &ConfigFields, camera: Camera) -> Config
     requires same { camera ≡ f.now.camera }
-    requires camera { IsCamera f.now.camera }
-    ensures value { result ≡ made f.now }
-    ensures known { IsConfig result }
+    requires known { IsConfig (made f.now) }
+    ensures { result ≡ made f.now }
 {
     Config {
-        version: f.version as u8,
+        version: f.version.unsigned_abs() as u8,
         camera,
-        max_weight: f.max_weight as u8,
-        heap_blocks: f.heap_blocks as u32,
-        buckets: f.buckets as u32,
+        max_weight: f.max_weight.unsigned_abs() as u8,
+        heap_blocks: f.heap_blocks.unsigned_abs() as u32,
+        buckets: f.buckets.unsigned_abs() as u32,
         empty_f: f.empty_f as i16,
     }
 }

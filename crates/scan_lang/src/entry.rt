@@ -1,4 +1,4 @@
-ghost use Rattle.std.specs.Prelude.{◌≡◌, ◌↔◌, IsTrue};
+ghost use Rattle.std.specs.Prelude.{◌≡◌};
 
 use depth_frame::DepthFrame;
 use fixed_geom::PoseRows;
@@ -6,22 +6,22 @@ use fixed_geom::PoseRows;
 /// A record of a scan.
 #[derive(Drop)]
 pub enum Entry {
-    /// The first three rows of a camera-to-world matrix, and the depth map that was seen from there.
+    /// The first three rows of a camera-to-world matrix, and the depth map that was taken there.
     Frame(PoseRows, DepthFrame),
-    /// All known voxels are asked for.
+    /// A request for all known voxels.
     Voxels,
-    /// Totals over the map are asked for.
+    /// A request for totals over the map.
     Sum,
-    /// The scan ends here.
+    /// The end of the scan.
     End,
 }
 
 impl Entry {
-    ghost use Rattle.scan_lang.specs.declared.entry.Entry.TheVariants.{End};
+    ghost use Rattle.scan_lang.specs.Entries.{is_end};
 
-    /// Whether it is the last record.
+    /// Whether it is the last record of a scan.
     pub fn is_end(&self) -> bool
-        ensures { IsTrue result ↔ (self.now ≡ End) }
+        ensures { result ≡ is_end self.now }
     {
         matches!(self, Entry::End)
     }

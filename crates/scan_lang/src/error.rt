@@ -4,48 +4,82 @@ ghost use Rattle.scan_lang.specs.declared.error.ScanError.TheVariants.{Bad, Read
 use crate::config::BadConfig;
 use depth_frame::PgmKind;
 use scan_io::Failed;
-use std::alloc::{AllocError, AllocFailed};
-use voxel_block::NoMemory;
+use std::alloc::AllocFailed;
+use std::error::Error;
+use std::fmt;
 
 /// What is bad in a scan.
 #[derive(Clone, Copy, Debug, PartialEq, Eq)]
 pub enum BadWhat {
-    /// The first line is no configuration; the place is that of the line.
+    /// The first line is no configuration; the offset is that of the line, 0.
     Config(BadConfig),
-    /// The first word of a line is no record's, or the number of words is not that record's; the place is that of the
+    /// The first word of a line names no record, or the record has another number of words; the offset is that of the
     /// line's first byte.
     Line,
-    /// A word that has to be a number is none, or it is out of range; the place is that of the word's first byte.
+    /// A word that has to be a number is none, or is out of range; the offset is that of the word's first byte.
     Number,
-    /// A depth map is bad, and it does not end too early; the place is as `PgmKind` says.
+    /// A depth map is bad, and does not end too early; `PgmKind` says at which offset.
     Pgm(PgmKind),
-    /// The input ends before a line's line feed, before the record `end`, or inside a depth map; the place is that end.
+    /// The input ends before a line's line feed, before the record `end`, or inside a depth map; the offset is that end.
     Short,
-    /// A line has more bytes than it may have before its line feed; the place is that of the first byte too many.
+    /// A line has more bytes before its line feed than it may; the offset is that of the first byte too many.
     Long,
-    /// A line follows the last one that a scan may have; the place is that of its first byte.
+    /// A line follows the last one that a scan may have; the offset is that of its first byte.
     Lines,
 }
 
 /// Where and why a scan is refused.
 #[derive(Clone, Copy, Debug, PartialEq, Eq)]
 pub struct BadScan {
-    /// The place, in bytes from the first one of the scan, held at the greatest number.
+    /// The offset, in bytes from the start of the scan; it saturates at `u64::MAX`.
     pub at: u64,
     /// What is bad there.
     pub what: BadWhat,
 }
 
-/// Why a reader gave nothing.
+/// Why a reader of scans gave nothing.
 #[derive(Clone, Copy, Debug, PartialEq, Eq)]
 pub enum ScanError {
-    /// The bytes are no scan.
+    /// The scan is refused.
     Bad(BadScan),
-    /// The source failed, and counted it.
+    /// The source failed, and counted the failure.
     ReadFault,
-    /// Memory is wanting.
+    /// Out of memory.
     NoMemory,
 }
+
+impl fmt::Display for BadWhat {
+    fn fmt<W: fmt::Write>(&self, f: &mut fmt::Formatter<W>) -> fmt::Result {
+        match self {
+            BadWhat::Config(why) => write!(f, "bad configuration: {why}"),
+            BadWhat::Line => write!(f, "the line is not a record"),
+            BadWhat::Number => write!(f, "the word is not a number, or is out of range"),
+            BadWhat::Pgm(kind) => write!(f, "bad depth map: {kind:?}"),
+            BadWhat::Short => write!(f, "the scan ends too early"),
+            BadWhat::Long => write!(f, "the line is too long"),
+            BadWhat::Lines => write!(f, "the scan has too many lines"),
+        }
+    }
+}
+
+impl fmt::Display for BadScan {
+    fn fmt<W: fmt::Write>(&self, f: &mut fmt::Formatter<W>) -> fmt::Result {
+        let (at, what) = (self.at, self.what);
+        write!(f, "at byte {at}: {what}")
+    }
+}
+
+impl fmt::Display for ScanError {
+    fn fmt<W: fmt::Write>(&self, f: &mut fmt::Formatter<W>) -> fmt::Result {
+        match self {
+            ScanError::Bad(why) => write!(f, "{why}"),
+            ScanError::ReadFault => write!(f, "the source failed"),
+            ScanError::NoMemory => write!(f, "out of memory"),
+        }
+    }
+}
+
+impl Error for ScanError {}
 
 impl From<BadScan> for ScanError {
     ghost from_gives = { λ why e. e ≡ Bad why };
@@ -60,22 +94,6 @@ impl From<Failed> for ScanError {
 
     fn from(_: Failed) -> Self {
         ScanError::ReadFault
-    }
-}
-
-impl From<NoMemory> for ScanError {
-    ghost from_gives = { λ _ e. e ≡ no_memory };
-
-    fn from(_: NoMemory) -> Self {
-        ScanError::NoMemory
-    }
-}
-
-impl From<AllocError> for ScanError {
-    ghost from_gives = { λ _ e. e ≡ no_memory };
-
-    fn from(_: AllocError) -> Self {
-        ScanError::NoMemory
     }
 }
 

@@ -1,11 +1,11 @@
+use crate::entry::Entry;
 use fixed_geom::PoseRows;
 
 /// What a line begins.
-#[derive(Clone, Copy, Debug, PartialEq, Eq)]
+#[derive(Drop)]
 pub enum Head {
     /// A frame, whose depth map follows the line.
     Frame(PoseRows),
-    Voxels,
-    Sum,
-    End,
+    /// A whole record.
+    Whole(Entry),
 }

@@ -5,12 +5,13 @@ mod config;
 mod entry;
 mod error;
 mod head;
+pub mod laws;
 mod line;
 mod reader;
 mod reply;
 mod words;
 
-pub use config::{BadConfig, Config, ConfigError, read_config};
+pub use config::{BadConfig, Config, ConfigError, ConfigFields, read_config};
 pub use entry::Entry;
 pub use error::{BadScan, BadWhat, ScanError};
 pub use reader::ScanReader;

@@ -1,12 +1,10 @@
-ghost use Rattle.std.specs.Prelude.{◌≡◌, ◌<◌, ◌≤◌, ℕ, IfOk, OnOk, IsErrOf};
-ghost use Rattle.scan_io.specs.Causes.{Rose};
-ghost use Rattle.scan_io.specs.Reading.{Reads, stream, turned};
+ghost use Rattle.std.specs.Prelude.{◌≡◌, ◌<◌, ◌≤◌, ℕ, IfOk, OnOk};
+ghost use Rattle.scan_io.specs.Reading.{Reads, UnlessOutOfMemory, stream, turned, unread};
 ghost use Rattle.scan_lang.specs.Config.{IsConfig};
 ghost use Rattle.depth_frame.specs.Pgm.{pgm_of};
-ghost use Rattle.scan_lang.specs.Places.{bad_pgm};
-ghost use Rattle.scan_lang.specs.Readers.{scan_errors, begun, Tells};
-ghost use Rattle.scan_lang.specs.Scan.{config_at_start, begin_of, entry_at, entry_behind, lines_behind_config};
-ghost use Rattle.scan_lang.specs.declared.error.ScanError.TheVariants.{ReadFault};
+ghost use Rattle.scan_lang.specs.Offsets.{bad_pgm};
+ghost use Rattle.scan_lang.specs.Readers.{scan_cause, scan_errors, begun};
+ghost use Rattle.scan_lang.specs.Scan.{config_at_start, begin_of, entry_at, entry_with, lines_after_config};
 ghost use Rattle.scan_lang.specs.declared.head.Head.TheVariants.{Frame};
 
 use crate::config::{Config, ConfigError, read_config};
@@ -25,9 +23,9 @@ const CONFIG_LINE_LIMIT: usize = 4096;
 
 const LINE_LIMIT: usize = 1024;
 
-const LINES_BEHIND_CONFIG: u32 = 999_999;
+const LINES_AFTER_CONFIG: u32 = 999_999;
 
-/// Reads a scan record by record. It holds no source: each call is lent it.
+/// Reads a scan record by record. It holds no source: each call borrows it.
 #[derive(Drop)]
 pub struct ScanReader {
     feed: Feed,
@@ -43,18 +41,16 @@ impl Model for ScanReader {
 }
 
 impl ScanReader {
-    /// Reads the configuration, which stands on the first line of a scan, and gives the reader of what follows it.
-    /// After an error, what was read of it is gone.
+    /// Reads the configuration, the first line of a scan, and gives the reader of the records after it. After an
+    /// error, the bytes that were read are lost.
     pub fn begin<S: Source>(
         alloc: Global,
         source: &mut S,
     ) -> Result<(Config, ScanReader), ScanError>
-        ensures begin { Reads scan_errors (λ p. record { config = p.0; place = p.1.kept.given }) begin_of (record { come = S.left source.old; given = 0 })
-            (begun result (S.left source.new)) (S.left source.new) result }
-        ensures lines { IfOk result (λ p. p.1.left ≡ lines_behind_config) }
+        ensures begin { Reads scan_errors (λ p. record { config = p.0; offset = p.1.kept.given }) begin_of (unread (S.left source.old) (S.faults source.old))
+            (begun result (S.left source.new) (S.faults source.new)) result }
+        ensures lines { IfOk result (λ p. p.1.left ≡ lines_after_config) }
         ensures config { IfOk result (λ p. IsConfig p.0) }
-        ensures later { S.faults source.old ≤ S.faults source.new }
-        ensures fault { IsErrOf result ReadFault → Rose (S.faults source.old) (S.faults source.new) }
     {
         let mut feed = match Feed::make(alloc) {
             Ok(feed) => feed,
@@ -65,57 +61,53 @@ impl ScanReader {
             config,
             ScanReader {
                 feed,
-                left: LINES_BEHIND_CONFIG,
+                left: LINES_AFTER_CONFIG,
             },
         ))
     }
 
-    /// Reads the next record: lines without words are skipped, and a frame goes on with its depth map. After an error,
-    /// what was read is gone, and the reader is of no use.
+    /// Reads the next record. Lines without words are skipped, and a frame goes on with its depth map. After an error,
+    /// the bytes that were read are lost, and the reader is of no further use.
     pub fn next<S: Source>(&mut self, alloc: Global, source: &mut S) -> Result<Entry, ScanError>
-        ensures entry { Reads scan_errors (λ e. record { entry = e; left = self.new.left; place = self.new.kept.given }) (entry_at self.old.left self.old.kept.given)
-            (stream self.old.kept (S.left source.old)) (stream self.new.kept (S.left source.new)) (S.left source.new) result }
+        ensures entry { Reads scan_errors (λ e. record { entry = e; left = self.new.left; offset = self.new.kept.given }) (entry_at self.old.left self.old.kept.given)
+            (stream self.old.kept (S.left source.old) (S.faults source.old)) (stream self.new.kept (S.left source.new) (S.faults source.new)) result }
         ensures fewer { OnOk result (self.new.left < self.old.left) }
-        ensures later { S.faults source.old ≤ S.faults source.new }
-        ensures fault { IsErrOf result ReadFault → Rose (S.faults source.old) (S.faults source.new) }
     {
         for _ in 0..self.left {
-            let place = self.feed.place();
+            let offset = self.feed.place();
             let line = read_line(alloc, &mut self.feed, source, LINE_LIMIT)?;
             self.left -= 1;
-            if let Some(head) = read_head(place, &line)? {
-                return read_behind(alloc, &mut self.feed, source, head);
+            if let Some(head) = read_head(offset, &line)? {
+                return read_entry(alloc, &mut self.feed, source, head);
             }
         }
-        let place = self.feed.place();
+        let offset = self.feed.place();
         next_byte(&mut self.feed, source)?;
         Err(ScanError::Bad(BadScan {
-            at: place,
+            at: offset,
             what: BadWhat::Lines,
         }))
     }
 }
 
-// The configuration's line, which is the first of a scan.
+// The configuration, which is the first line of a scan.
 fn read_begin<S: Source>(
     alloc: Global,
     feed: &mut Feed,
     source: &mut S,
 ) -> Result<Config, ScanError>
     requires { feed.old.given ≡ 0 }
-    ensures begin { Reads scan_errors (λ c. record { config = c; place = feed.new.given }) begin_of (stream feed.old (S.left source.old))
-        (stream feed.new (S.left source.new)) (S.left source.new) result }
+    ensures begin { Reads scan_errors (λ c. record { config = c; offset = feed.new.given }) begin_of (stream feed.old (S.left source.old) (S.faults source.old))
+        (stream feed.new (S.left source.new) (S.faults source.new)) result }
     ensures config { IfOk result IsConfig }
-    ensures later { S.faults source.old ≤ S.faults source.new }
-    ensures fault { IsErrOf result ReadFault → Rose (S.faults source.old) (S.faults source.new) }
 {
     let line = read_line(alloc, feed, source, CONFIG_LINE_LIMIT)?;
     first_config(alloc, &line)
 }
 
-// The configuration that the first line is.
+// The configuration that the first line of a scan is.
 fn first_config(alloc: Global, line: &[u8]) -> Result<Config, ScanError>
-    ensures value { Tells (λ c. c) result (config_at_start line.now) }
+    ensures value { UnlessOutOfMemory scan_cause (λ c. c) result (config_at_start line.now) }
     ensures config { IfOk result IsConfig }
 {
     match read_config(alloc, line) {
@@ -128,54 +120,46 @@ fn first_config(alloc: Global, line: &[u8]) -> Result<Config, ScanError>
     }
 }
 
-// The whole record that a line begins, behind the line.
-fn read_behind<S: Source>(
+// The record that a line begins, read from the bytes after the line.
+fn read_entry<S: Source>(
     alloc: Global,
     feed: &mut Feed,
     source: &mut S,
     head: Head,
 ) -> Result<Entry, ScanError>
-    ensures entry { (left : ℕ) → Reads scan_errors (λ e. record { entry = e; left = left; place = feed.new.given }) (entry_behind left feed.old.given head)
-        (stream feed.old (S.left source.old)) (stream feed.new (S.left source.new)) (S.left source.new) result }
-    ensures later { S.faults source.old ≤ S.faults source.new }
-    ensures fault { IsErrOf result ReadFault → Rose (S.faults source.old) (S.faults source.new) }
+    ensures { (left : ℕ) → Reads scan_errors (λ e. record { entry = e; left = left; offset = feed.new.given }) (entry_with left feed.old.given head)
+        (stream feed.old (S.left source.old) (S.faults source.old)) (stream feed.new (S.left source.new) (S.faults source.new)) result }
 {
     match head {
         Head::Frame(rows) => read_frame(alloc, feed, source, rows),
-        Head::Voxels => Ok(Entry::Voxels),
-        Head::Sum => Ok(Entry::Sum),
-        Head::End => Ok(Entry::End),
+        Head::Whole(entry) => Ok(entry),
     }
 }
 
-// A frame, whose depth map stands behind the line.
+// A frame, whose depth map follows the line.
 fn read_frame<S: Source>(
     alloc: Global,
     feed: &mut Feed,
     source: &mut S,
     rows: PoseRows,
 ) -> Result<Entry, ScanError>
-    ensures frame { (left : ℕ) → Reads scan_errors (λ e. record { entry = e; left = left; place = feed.new.given }) (entry_behind left feed.old.given (Frame rows))
-        (stream feed.old (S.left source.old)) (stream feed.new (S.left source.new)) (S.left source.new) result }
-    ensures later { S.faults source.old ≤ S.faults source.new }
-    ensures fault { IsErrOf result ReadFault → Rose (S.faults source.old) (S.faults source.new) }
+    ensures { (left : ℕ) → Reads scan_errors (λ e. record { entry = e; left = left; offset = feed.new.given }) (entry_with left feed.old.given (Frame rows))
+        (stream feed.old (S.left source.old) (S.faults source.old)) (stream feed.new (S.left source.new) (S.faults source.new)) result }
 {
     let depths = read_depths(alloc, feed, source)?;
-    // The place behind the depth map is a number of 64 bits.
+    // The offset after the depth map is a number of 64 bits.
     prove!(feed.place() <= u64::MAX);
     Ok(Entry::Frame(rows, depths))
 }
 
-// A depth map, whose refusals are those of the scan.
+// A depth map, whose refusals become those of the scan.
 fn read_depths<S: Source>(
     alloc: Global,
     feed: &mut Feed,
     source: &mut S,
 ) -> Result<DepthFrame, ScanError>
-    ensures depths { Reads scan_errors (λ f. f) (λ text. turned bad_pgm (pgm_of feed.old.given text)) (stream feed.old (S.left source.old))
-        (stream feed.new (S.left source.new)) (S.left source.new) result }
-    ensures later { S.faults source.old ≤ S.faults source.new }
-    ensures fault { IsErrOf result ReadFault → Rose (S.faults source.old) (S.faults source.new) }
+    ensures { Reads scan_errors (λ f. f) (λ text. turned bad_pgm (pgm_of feed.old.given text)) (stream feed.old (S.left source.old) (S.faults source.old))
+        (stream feed.new (S.left source.new) (S.faults source.new)) result }
 {
     match read_pgm(alloc, feed, source) {
         Ok(depths) => Ok(depths),
@@ -185,7 +169,7 @@ fn read_depths<S: Source>(
     }
 }
 
-// A depth map that ends too early is a scan that does.
+// A depth map's refusal as one of the scan: a depth map that ends too early is a scan that does.
 fn scan_fault(why: BadPgm) -> BadScan
     ensures { result ≡ bad_pgm why }
 {

@@ -7,18 +7,19 @@ use std::alloc::{AllocError, Global};
 use std::marker::Model;
 use voxel_block::NoMemory;
 
-/// What is told of an accepted frame.
+/// The reply to an accepted frame.
 #[derive(Clone, Copy, Debug, PartialEq, Eq)]
 pub struct FrameDone {
-    /// The number of accepted frames, this one among them, held at the greatest number.
+    /// The number of accepted frames with this one; it saturates at `u64::MAX`.
     pub frame: u64,
     /// The number of blocks of the map.
     pub blocks: u64,
-    /// How many of them are active for the frame.
+    /// The number of blocks that are active for the frame.
     pub resident: u32,
 }
 
-/// A voxel that was seen at least once: its coordinates in the whole grid, its distance and its weight.
+/// A known voxel, which is one of weight above 0: its coordinates in the whole grid, its distance, where 32767 is the
+/// truncation distance, and its weight.
 #[derive(Clone, Copy, Debug, PartialEq, Eq)]
 pub struct KnownVoxel {
     pub x: i32,
@@ -28,16 +29,16 @@ pub struct KnownVoxel {
     pub w: u8,
 }
 
-/// Sums over a map, each held at the end of its type where it would pass it.
+/// Sums over a map; each saturates at the ends of its type.
 #[derive(Clone, Copy, Debug, PartialEq, Eq)]
 pub struct Totals {
     /// The number of blocks.
     pub blocks: u64,
-    /// The number of voxels that were seen at least once.
+    /// The number of known voxels.
     pub known: u64,
-    /// The sum of their weights.
+    /// The sum of the known voxels' weights.
     pub weight: u64,
-    /// The sum of their distances.
+    /// The sum of the known voxels' distances.
     pub distance: i64,
 }
 
@@ -57,7 +58,7 @@ impl Model for VoxelList {
 }
 
 impl VoxelList {
-    /// The list of the vector's voxels.
+    /// A list of these voxels.
     pub fn make(items: Vec<KnownVoxel>) -> VoxelList
         ensures { result ≡ items.items }
     {
@@ -79,11 +80,11 @@ pub enum Reply {
     Frame(FrameDone),
     /// A frame was refused: its sides are not those of the configuration.
     Size,
-    /// A frame was refused: its pose passes the bounds.
+    /// A frame was refused: its pose is out of range.
     PoseRange,
-    /// A frame was refused: its pose is no rotation.
+    /// A frame was refused: its matrix is not a rotation.
     PoseRotation,
-    /// A frame was refused: more than so many blocks would be active.
+    /// A frame was refused: more than this number of blocks would be active.
     HeapSpent(u32),
     /// The number of blocks, and all known voxels.
     Voxels(u64, VoxelList),
@@ -184,7 +185,7 @@ fn write_voxel(bytes: &mut Vec<u8>, voxel: &KnownVoxel) -> Result<(), AllocError
     write_number(bytes, i64::from(voxel.w), b'\n')
 }
 
-// Writes a number, and the byte behind it.
+// Writes a number, and the byte after it.
 fn write_number(bytes: &mut Vec<u8>, number: i64, end: u8) -> Result<(), AllocError>
     ensures { OnOk result (bytes.new.items ≡ bytes.old.items ++ signed_decimal number ++ end ∷ []) }
 {

@@ -1,10 +1,11 @@
-ghost use Rattle.std.specs.Prelude.{◌≡◌, ◌<◌, ◌≤◌, ◌==◌, not, length, position, IfSome};
+ghost use Rattle.std.specs.Prelude.{◌≡◌, ◌<◌, ◌≤◌, ◌==◌, not, length, position, IfSome, Some};
 ghost use Rattle.std.specs.List.{position_or_len};
-ghost use Rattle.scan_lang.specs.Places.{behind, fault};
-ghost use Rattle.scan_lang.specs.Words.{is_blank as blank_test, words_of, scale_of, number_at, numbers_from, rows_in as rows_of, frame_head, alone as alone_of, head_with, head_of};
-ghost use Rattle.scan_lang.specs.Spans.{bytes_of, words_behind, words_with};
+ghost use Rattle.scan_lang.specs.Offsets.{offset_after, fault};
+ghost use Rattle.scan_lang.specs.Words.{is_blank as blank_test, words_of, scale_of, number_at, numbers_from, rows_in as rows_of, frame_head, alone as alone_of, one_word as record_of, head_with, head_of};
+ghost use Rattle.scan_lang.specs.Spans.{bytes_of, words_from, words_with};
 ghost use Rattle.scan_lang.specs.declared.error.BadWhat.TheVariants.{Line, Number};
 
+use crate::entry::Entry;
 use crate::error::{BadScan, BadWhat};
 use crate::head::Head;
 use fixed_geom::{PoseRows, Vec3, read_decimal};
@@ -15,7 +16,7 @@ const ONE: i64 = 1 << 30;
 
 const FRAME_NUMBERS: usize = 12;
 
-/// The bytes of a line from `start` on and before `end`.
+/// The bytes of a line from the index `start` to before `end`.
 #[derive(Clone, Copy, Debug, PartialEq, Eq)]
 pub struct Span {
     pub start: usize,
@@ -30,61 +31,71 @@ impl Span {
     }
 }
 
-/// What the line at a place begins, nothing where it has no words.
+/// What the line at an offset begins; nothing where it has no words.
 #[tactic(auto, unfolding(crate::specs::Words::head_of, crate::specs::Words::words_of))]
-pub fn read_head(place: u64, line: &[u8]) -> Result<Option<Head>, BadScan>
-    ensures { result ≡ head_of place line.now }
+pub fn read_head(offset: u64, line: &[u8]) -> Result<Option<Head>, BadScan>
+    ensures { result ≡ head_of offset line.now }
 {
     let word = next_word(line, 0);
     if word.is_empty() {
         return Ok(None);
     }
-    Ok(Some(read_record(place, line, word)?))
+    Ok(Some(read_record(offset, line, word)?))
 }
 
 // The record of a line by its first word.
-fn read_record(place: u64, line: &[u8], word: Span) -> Result<Head, BadScan>
+fn read_record(offset: u64, line: &[u8], word: Span) -> Result<Head, BadScan>
     requires order { word.start ≤ word.end }
     requires bound { word.end ≤ length line.now }
-    ensures { result ≡ head_with place (bytes_of line.now word) (words_behind word.end line.now) }
+    ensures { result ≡ head_with offset (bytes_of line.now word) (words_from word.end line.now) }
 {
     let bytes = &line[word.start..word.end];
     if bytes == b"frame".as_slice() {
-        return read_frame(place, line, word.end);
+        return read_frame(offset, line, word.end);
     }
-    if bytes == b"voxels".as_slice() {
-        return alone(place, Head::Voxels, line, word.end);
+    match one_word(bytes) {
+        Some(entry) => alone(offset, entry, line, word.end),
+        None => Err(line_fault(offset)),
     }
-    if bytes == b"sum".as_slice() {
-        return alone(place, Head::Sum, line, word.end);
-    }
-    if bytes == b"end".as_slice() {
-        return alone(place, Head::End, line, word.end);
-    }
-    Err(line_fault(place))
 }
 
-// A record of one word, which ends at `from`.
-fn alone(place: u64, head: Head, line: &[u8], from: usize) -> Result<Head, BadScan>
+// The record that is one word.
+fn one_word(word: &[u8]) -> Option<Entry>
+    ensures { result ≡ record_of word.now }
+{
+    if word == b"voxels".as_slice() {
+        return Some(Entry::Voxels);
+    }
+    if word == b"sum".as_slice() {
+        return Some(Entry::Sum);
+    }
+    if word == b"end".as_slice() {
+        return Some(Entry::End);
+    }
+    None
+}
+
+// A record of one word, which ends at the index `from` of the line.
+fn alone(offset: u64, entry: Entry, line: &[u8], from: usize) -> Result<Head, BadScan>
     requires { from ≤ length line.now }
-    ensures { result ≡ alone_of place head (words_behind from line.now) }
+    ensures { result ≡ alone_of offset (Some entry) (words_from from line.now) }
 {
     if next_word(line, from).is_empty() {
-        Ok(head)
+        Ok(Head::Whole(entry))
     } else {
-        Err(line_fault(place))
+        Err(line_fault(offset))
     }
 }
 
-// A frame, whose word ends at `from`: twelve numbers follow.
-fn read_frame(place: u64, line: &[u8], from: usize) -> Result<Head, BadScan>
+// A frame, whose word ends at the index `from`; twelve numbers follow.
+fn read_frame(offset: u64, line: &[u8], from: usize) -> Result<Head, BadScan>
     requires { from ≤ length line.now }
-    ensures { result ≡ frame_head place (words_behind from line.now) }
+    ensures { result ≡ frame_head offset (words_from from line.now) }
 {
     if !are_twelve(line, from) {
-        return Err(line_fault(place));
+        return Err(line_fault(offset));
     }
-    let numbers = read_numbers(place, line, from)?;
+    let numbers = read_numbers(offset, line, from)?;
     Ok(Head::Frame(rows_in(&numbers)))
 }
 
@@ -102,63 +113,63 @@ fn rows_in(n: &[i64; FRAME_NUMBERS]) -> PoseRows
     }
 }
 
-// Whether there are just twelve words from a place on.
+// Whether there are exactly twelve words from an index on.
 fn are_twelve(line: &[u8], from: usize) -> bool
     requires { from ≤ length line.now }
-    ensures { result ≡ (length (words_behind from line.now) == 12) }
+    ensures { result ≡ (length (words_from from line.now) == 12) }
 {
-    let mut behind = from;
+    let mut next = from;
     for _ in 0..FRAME_NUMBERS {
-        let word = next_word(line, behind);
+        let word = next_word(line, next);
         if word.is_empty() {
             return false;
         }
-        behind = word.end;
+        next = word.end;
     }
-    next_word(line, behind).is_empty()
+    next_word(line, next).is_empty()
 }
 
-// The numbers that the twelve words from a place on write, in a line that stands at the place `place`.
-fn read_numbers(place: u64, line: &[u8], from: usize) -> Result<[i64; FRAME_NUMBERS], BadScan>
+// The numbers that the twelve words from the index `from` write, in the line at `offset`.
+fn read_numbers(offset: u64, line: &[u8], from: usize) -> Result<[i64; FRAME_NUMBERS], BadScan>
     requires bound { from ≤ length line.now }
-    requires twelve { length (words_behind from line.now) ≡ 12 }
-    ensures { result ≡ numbers_from place 0 (words_behind from line.now) }
+    requires twelve { length (words_from from line.now) ≡ 12 }
+    ensures { result ≡ numbers_from offset 0 (words_from from line.now) }
 {
-    let mut behind = from;
+    let mut next = from;
     let mut numbers = [0; FRAME_NUMBERS];
     for index in 0..FRAME_NUMBERS {
-        let word = next_word(line, behind);
-        numbers[index] = read_number(place, index, line, word)?;
-        behind = word.end;
+        let word = next_word(line, next);
+        numbers[index] = read_number(offset, index, line, word)?;
+        next = word.end;
     }
     Ok(numbers)
 }
 
-fn read_number(place: u64, index: usize, line: &[u8], word: Span) -> Result<i64, BadScan>
+fn read_number(offset: u64, index: usize, line: &[u8], word: Span) -> Result<i64, BadScan>
     requires order { word.start ≤ word.end }
     requires bound { word.end ≤ length line.now }
-    ensures { result ≡ number_at place index (record { at = word.start; bytes = bytes_of line.now word }) }
+    ensures { result ≡ number_at offset index (record { at = word.start; bytes = bytes_of line.now word }) }
 {
     match read_decimal(&line[word.start..word.end], scale(index)) {
         Ok(number) => Ok(number),
         Err(_) => Err(BadScan {
-            at: place.saturating_add(word.start as u64),
+            at: offset.saturating_add(word.start as u64),
             what: BadWhat::Number,
         }),
     }
 }
 
-// A rotation's entries are kept in units of 2^-30, a translation in micrometres.
+// An entry of the rotation is kept in units of 2^-30, a translation in micrometres.
 fn scale(index: usize) -> i64
     ensures { result ≡ scale_of index }
 {
     if index % 4 == 3 { METRE } else { ONE }
 }
 
-// The first word from a place on; it is empty at the end of the line, where there is none.
+// The first word from an index on; an empty span at the end of the line where there is none.
 fn next_word(line: &[u8], from: usize) -> Span
     requires { from ≤ length line.now }
-    ensures words { words_behind from line.now ≡ words_with line.now result }
+    ensures words { words_from from line.now ≡ words_with line.now result }
     ensures order { result.start ≤ result.end }
     ensures bound { result.end ≤ length line.now }
 {
@@ -167,7 +178,7 @@ fn next_word(line: &[u8], from: usize) -> Span
     Span { start, end }
 }
 
-// How many bytes stand before the first one that is no blank.
+// The number of bytes before the first one that is not blank.
 fn blanks(text: &[u8]) -> usize
     ensures value { result ≡ position_or_len (λ b. not (blank_test b)) text.now }
     ensures bound { result ≤ length text.now }
@@ -176,13 +187,13 @@ fn blanks(text: &[u8]) -> usize
 }
 
 fn first_of_word(text: &[u8]) -> Option<usize>
-    ensures place { result ≡ position (λ b. not (blank_test b)) text.now }
+    ensures first { result ≡ position (λ b. not (blank_test b)) text.now }
     ensures bound { IfSome result (λ i. i < length text.now) }
 {
     text.iter().position(|b| !is_blank(*b))
 }
 
-// How many bytes stand before the first blank.
+// The number of bytes before the first blank.
 fn word_len(text: &[u8]) -> usize
     ensures value { result ≡ position_or_len blank_test text.now }
     ensures bound { result ≤ length text.now }
@@ -191,7 +202,7 @@ fn word_len(text: &[u8]) -> usize
 }
 
 fn first_blank(text: &[u8]) -> Option<usize>
-    ensures place { result ≡ position blank_test text.now }
+    ensures first { result ≡ position blank_test text.now }
     ensures bound { IfSome result (λ i. i < length text.now) }
 {
     text.iter().position(|b| is_blank(*b))
@@ -204,11 +215,11 @@ fn is_blank(byte: u8) -> bool
     byte == b' ' || byte == b'\t' || byte == b'\r'
 }
 
-fn line_fault(place: u64) -> BadScan
-    ensures { result ≡ fault Line place }
+fn line_fault(offset: u64) -> BadScan
+    ensures { result ≡ fault Line offset }
 {
     BadScan {
-        at: place,
+        at: offset,
         what: BadWhat::Line,
     }
 }

@@ -1,6 +1,6 @@
 -- Where and why a scan is refused.
 use Rattle.std.specs.Prelude.{ℕ, ◌+◌}
-use Rattle.scan_io.specs.Reading.{held}
+use Rattle.scan_io.specs.Reading.{saturated}
 use Rattle.depth_frame.specs.declared.error.BadPgm.{BadPgm}
 use Rattle.depth_frame.specs.declared.error.PgmKind.{PgmKind}
 use Rattle.depth_frame.specs.declared.error.PgmKind.TheVariants as pgm
@@ -8,19 +8,19 @@ use Rattle.scan_lang.specs.declared.error.BadScan.{BadScan}
 use Rattle.scan_lang.specs.declared.error.BadWhat.{BadWhat}
 use Rattle.scan_lang.specs.declared.error.BadWhat.TheVariants.{Pgm, Short}
 
--- so many bytes behind a place; places are held at the greatest number
-abbrev pub behind : (place count : ℕ) → ℕ
-behind place n = held (place + n)
+-- the offset n bytes after an offset; an offset saturates at 2^64 - 1
+abbrev pub offset_after : (offset n : ℕ) → ℕ
+offset_after offset n = saturated (offset + n)
 
--- a refusal of this kind at a place
-abbrev pub fault : BadWhat → (place : ℕ) → BadScan
-fault what place = record { at = place; what = what }
+-- a refusal of this kind at an offset
+abbrev pub fault : BadWhat → (offset : ℕ) → BadScan
+fault what offset = record { at = offset; what = what }
 
--- the input ends at a place
-abbrev pub short : (place : ℕ) → BadScan
-short place = fault Short place
+-- the input ends at an offset
+abbrev pub short : (offset : ℕ) → BadScan
+short offset = fault Short offset
 
--- what is bad in a scan where a depth map is: one that ends too early is a scan that does
+-- what is bad in a scan whose depth map is bad: a depth map that ends too early is a scan that does
 abbrev pub pgm_what : PgmKind → BadWhat
 pgm_what pgm.Magic = Pgm pgm.Magic
 pgm_what pgm.Header = Pgm pgm.Header
