@@ -1,4 +1,4 @@
--- The list of a band's blocks against the set of them, and that each is active.
+-- The list of a band's blocks has the set's blocks, and each of them is active.
 use Rattle.std.proofs.Common.{◌≡◌, ℕ, zero, suc, ◌+◌, ◌<◌, ◌≤◌, List, ◌++◌, map, refl, sym, subst, ◌∙◌, inl, inr, ◌⊎◌, zero-add, arith}
 use Rattle.std.specs.Prelude.{ℤ, pos, ◌+ℤ◌, ◌-ℤ◌, ◌≤ℤ◌, Option, Some, None, Contains, IsTrue}
 use Rattle.std.specs.Int.{int_max}
@@ -12,12 +12,12 @@ use Rattle.voxel_block.specs.declared.key.BlockKey.{BlockKey}
 use Rattle.band_walk.specs.Bands.{IsInBand, band, row_blocks, row_keys, pixel_blocks, blocks_round, segment_point, segment_start, segment_end, steps_of}
 use Rattle.depth_view.specs.Views.{View, IsView, depth_at}
 use Rattle.camera.specs.Grid.{block_at}
-use Rattle.band_walk.proofs.WalkLemmas.{flat_map_more}
+use Rattle.band_walk.proofs.WalkLemmas.{flat_map_one_more}
 use Rattle.camera.proofs.RayLemmas.{is_shown, column_inside}
 use Rattle.camera.specs.Cameras.{is_active}
 use Rattle.camera.specs.Grid.{is_key}
-use Rattle.camera.specs.Visibility.{IsNearBlock, IsPiercedAt}
-use Rattle.camera.proofs.Band.{sample_is_pierced, band_is_active, band_is_near, near_has_key}
+use Rattle.camera.specs.Visibility.{IsInReach, IsNearBlock, IsPiercedAt}
+use Rattle.camera.proofs.Band.{sample_is_pierced, band_is_active, band_is_in_reach, band_is_near, near_has_key}
 use Rattle.camera.proofs.RayBack.{pixel_of}
 use Rattle.band_walk.proofs.Keys.{kept, was_there}
 
@@ -26,7 +26,7 @@ use Rattle.band_walk.proofs.Keys.{kept, was_there}
 -- what the lists of the first indices have
 pub from_lists : {A : Type 0} (f : ℕ → List A) (n : ℕ) (y : A) → Contains (flat_map f (range_with_len 0 n)) y → (k : ℕ) × (k < n) × Contains (f k) y
 from_lists f zero y c = absurd (omega (arith, c.1))
-from_lists f (suc n) y c = by (from_lists f n y) (Contains-append_cases (flat_map f (range_with_len 0 n)) (f n) y (subst (λ xs. Contains xs y) (flat_map_more f n) c))
+from_lists f (suc n) y c = by (from_lists f n y) (Contains-append_cases (flat_map f (range_with_len 0 n)) (f n) y (subst (λ xs. Contains xs y) (flat_map_one_more f n) c))
   where
     by : (Contains (flat_map f (range_with_len 0 n)) y → (k : ℕ) × (k < n) × Contains (f k) y) → Contains (flat_map f (range_with_len 0 n)) y ⊎ Contains (f n) y → (k : ℕ) × (k < suc n) × Contains (f k) y
     by before (inl a) = let r = before a in (r.0, omega (arith, r.1), r.2)
@@ -34,7 +34,7 @@ from_lists f (suc n) y c = by (from_lists f n y) (Contains-append_cases (flat_ma
 
 pub to_lists : {A : Type 0} (f : ℕ → List A) (n k : ℕ) (y : A) → k < n → Contains (f k) y → Contains (flat_map f (range_with_len 0 n)) y
 to_lists f zero k y h c = absurd (omega arith)
-to_lists f (suc n) k y h c = subst (λ xs. Contains xs y) (sym (flat_map_more f n)) (by (λ l. to_lists f n k y l c) (cases_lt k n))
+to_lists f (suc n) k y h c = subst (λ xs. Contains xs y) (sym (flat_map_one_more f n)) (by (λ l. to_lists f n k y l c) (cases_lt k n))
   where
     by : (k < n → Contains (flat_map f (range_with_len 0 n)) y) → (k < n) ⊎ (n ≤ k) → Contains (flat_map f (range_with_len 0 n) ++ f n) y
     by before (inl l) = Contains-append_left (flat_map f (range_with_len 0 n)) (f n) y (before l)
@@ -80,7 +80,7 @@ to_band w b i =
     let pixel : Contains (pixel_blocks w i.u i.v) b = subst (λ o. Contains (blocks_round w i.u i.v o) b) (sym i.depth) sample in
     to_lists (row_blocks w) w.depths.height i.v b i.v_inside (to_lists (λ u. pixel_blocks w u i.v) w.depths.width i.u b i.u_inside pixel)
 
--- ---- without neighbours
+-- ---- without repeats
 
 pub from_rows : (w : View) (b : BlockKey) → Contains (flat_map (row_keys w) (range_with_len 0 w.depths.height)) b → IsInBand w b
 from_rows w b c =
@@ -94,16 +94,16 @@ to_rows w b i =
 
 -- ---- activity
 
--- where a segment begins and ends along the ray
+-- the depths where a segment begins and ends
 starts : (mu far voxel d : ℤ) → pos 1000 ≤ℤ voxel → voxel ≤ℤ mu → pos 1 ≤ℤ d → d ≤ℤ far → (pos 1 ≤ℤ int_max (pos 1) (d -ℤ mu)) × (int_max (pos 1) (d -ℤ mu) ≤ℤ (far +ℤ mu))
 starts mu far voxel d a b c e = (omega (arith, ints, clamps), omega (arith, ints, clamps))
 
 ends : (mu far voxel d : ℤ) → pos 1000 ≤ℤ voxel → voxel ≤ℤ mu → pos 1 ≤ℤ d → d ≤ℤ far → (pos 1 ≤ℤ (d +ℤ mu)) × ((d +ℤ mu) ≤ℤ (far +ℤ mu))
 ends mu far voxel d a b c e = (omega (arith, ints), omega (arith, ints))
 
--- a block of the band is active, and its coordinates fit 16 bits
-pub is_seen : (w : View) (b : BlockKey) → IsView w → IsInBand w b → IsTrue (is_active w.camera w.pose b) × IsTrue (is_key b) × IsNearBlock b
-is_seen w b is i =
+-- a block of the band is active, its coordinates fit 16 bits, and it begins within 2^30 of the origin on each axis
+pub band_block_is_active : (w : View) (b : BlockKey) → IsView w → IsInBand w b → IsTrue (is_active w.camera w.pose b) × IsTrue (is_key b) × IsNearBlock b × IsInReach w.camera.voxel b
+band_block_is_active w b is i =
     let k = w.camera in
     let r = is.camera.ranges in
     let a = segment_start w i.u i.v i.d in
@@ -114,8 +114,14 @@ is_seen w b is i =
     let last = ends k.mu k.far k.voxel i.d r.voxel r.mu s.near s.far in
     let pixel = pixel_of k i.u i.v (column_inside i.u w.depths.width k.width is.fits.width i.u_inside) (column_inside i.v w.depths.height k.height is.fits.height i.v_inside) in
     let at : IsPiercedAt k.voxel (pos i.j) (pos n) a e b = subst (IsPiercedAt k.voxel (pos i.j) (pos n) a e) (sym i.is) (sample_is_pierced k.voxel (pos i.j) (pos n) a e (size k.voxel r.voxel) (low i.j) (high i.j n i.sample) (some n (omega arith))) in
-    let near = band_is_near k w.pose (pos i.u) (pos i.v) (int_max (pos 1) (i.d -ℤ k.mu)) (i.d +ℤ k.mu) (pos i.j) (pos n) b r is.camera.reach is.pose.range pixel first.0 first.1 last.0 last.1 at in
-    (band_is_active k w.pose (pos i.u) (pos i.v) (int_max (pos 1) (i.d -ℤ k.mu)) (i.d +ℤ k.mu) (pos i.j) (pos n) b r is.camera.sphere is.pose pixel first.0 first.1 last.0 last.1 at, near_has_key b near, near)
+    let y = int_max (pos 1) (i.d -ℤ k.mu) in
+    let z = i.d +ℤ k.mu in
+    let near = band_is_near k w.pose (pos i.u) (pos i.v) y z (pos i.j) (pos n) b r is.camera.reach is.pose.range pixel first.0 first.1 last.0 last.1 at in (
+      band_is_active k w.pose (pos i.u) (pos i.v) y z (pos i.j) (pos n) b r is.camera.sphere is.pose pixel first.0 first.1 last.0 last.1 at,
+      near_has_key b near,
+      near,
+      band_is_in_reach k w.pose (pos i.u) (pos i.v) y z (pos i.j) (pos n) b r is.camera.reach is.pose.range pixel first.0 first.1 last.0 last.1 at,
+    )
   where
     size : (s : ℤ) → pos 1000 ≤ℤ s → pos 1 ≤ℤ s
     size s h = omega (arith, ints)

@@ -1,5 +1,4 @@
-mod BandSet
-mod FloorLemmas
+pub mod BandSet
 mod Keys
 mod Machine
 mod SampleLemmas

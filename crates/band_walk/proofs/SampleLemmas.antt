@@ -9,7 +9,7 @@ use Rattle.fixed_geom.proofs.Floors.{floor_is, floor_above, floor_below}
 
 -- ---- samples
 
--- j parts of n of a way are between none of it and all of it
+-- j parts of n of an offset are between none of it and all of it
 rising : (d n j q : ℤ) → pos 0 ≤ℤ d → pos 0 ≤ℤ j → j ≤ℤ n → pos 1 ≤ℤ n → IsFloor (j *ℤ d) n q → (pos 0 ≤ℤ q) × (q ≤ℤ d)
 rising d n j q d0 j0 jn n1 f = (
   floor_above (j *ℤ d) n q (pos 0) n1 f (low (n *ℤ pos 0) (j *ℤ pos 0) (j *ℤ d) (omega (arith, ints)) (omega (arith, ints)) (mul_order j (pos 0) d j0 d0)),
@@ -35,8 +35,8 @@ falling d n j q d0 j0 jn n1 f = (
     high jd j0 n0 n a b c h = omega (arith, ints)
 
 -- a sample is as near to the origin as the ends are
-pub sample_on_within : (w a e n j : ℤ) → pos 0 ≤ℤ j → j ≤ℤ n → pos 1 ≤ℤ n → IsWithin w a → IsWithin w e → IsWithin w (a +ℤ floor_div (j *ℤ (e -ℤ a)) n)
-sample_on_within w a e n j j0 jn n1 v i =
+pub sample_axis_within : (w a e n j : ℤ) → pos 0 ≤ℤ j → j ≤ℤ n → pos 1 ≤ℤ n → IsWithin w a → IsWithin w e → IsWithin w (a +ℤ floor_div (j *ℤ (e -ℤ a)) n)
+sample_axis_within w a e n j j0 jn n1 v i =
     let d = e -ℤ a in
     let q = floor_div (j *ℤ d) n in
     let f = floor_is (j *ℤ d) n n1 in
@@ -58,8 +58,8 @@ pub record IsFrom (low high z : ℤ) : Type 0 where
   pub below : z ≤ℤ high
 
 -- one coordinate of the block of a point
-pub block_on_from : (s x : ℤ) → pos 1000 ≤ℤ s → IsWithin (pos 151006226) x → IsFrom (neg_ℤ (pos 18876)) (pos 18875) (floor_div x (pos 8 *ℤ s))
-block_on_from s x s1 w =
+pub block_axis_from : (s x : ℤ) → pos 1000 ≤ℤ s → IsWithin (pos 151006226) x → IsFrom (neg_ℤ (pos 18876)) (pos 18875) (floor_div x (pos 8 *ℤ s))
+block_axis_from s x s1 w =
     let b = pos 8 *ℤ s in
     let b1 : pos 1 ≤ℤ b = omega (arith, ints) in
     let f = floor_is x b b1 in

@@ -6,12 +6,12 @@ use Rattle.std.proofs.lemmas.Grind.{flat_map-append}
 
 -- ---- ranges
 
-first_more : (a n j : ℕ) → a + n ≡ j → range_with_len a (suc n) ≡ range_with_len a n ++ j ∷ []
-first_more a zero j e = ap (λ i. i ∷ []) (omega arith)
-first_more a (suc n) j e = ap (λ is. a ∷ is) (first_more (a + 1) n j (omega arith))
+range_one_more : (a n j : ℕ) → a + n ≡ j → range_with_len a (suc n) ≡ range_with_len a n ++ j ∷ []
+range_one_more a zero j e = ap (λ i. i ∷ []) (omega arith)
+range_one_more a (suc n) j e = ap (λ is. a ∷ is) (range_one_more (a + 1) n j (omega arith))
 
-pub flat_map_more : {A : Type 0} (f : ℕ → List A) (n : ℕ) → flat_map f (range_with_len 0 (suc n)) ≡ flat_map f (range_with_len 0 n) ++ f n
-flat_map_more f n = ap (flat_map f) (first_more 0 n n (zero-add n)) ∙ flat_map-append f (range_with_len 0 n) (n ∷ []) ∙ ap (λ xs. flat_map f (range_with_len 0 n) ++ xs) (append-nil (f n))
+pub flat_map_one_more : {A : Type 0} (f : ℕ → List A) (n : ℕ) → flat_map f (range_with_len 0 (suc n)) ≡ flat_map f (range_with_len 0 n) ++ f n
+flat_map_one_more f n = ap (flat_map f) (range_one_more 0 n n (zero-add n)) ∙ flat_map-append f (range_with_len 0 n) (n ∷ []) ∙ ap (λ xs. flat_map f (range_with_len 0 n) ++ xs) (append-nil (f n))
 
 -- from j to below m: j and the others
 pub range_next : (j m : ℕ) → j < m → range_with_len j (m - j) ≡ j ∷ range_with_len (j + 1) (m - (j + 1))

@@ -19,7 +19,7 @@ use Rattle.depth_view.specs.Views.{View, depth_at}
 abbrev pub spread : (a e : Vec3) → ℕ
 spread a e = max (unsigned_abs (e.x -ℤ a.x)) (max (unsigned_abs (e.y -ℤ a.y)) (unsigned_abs (e.z -ℤ a.z)))
 
--- how many steps the samples of the segment from a to e take: so many that a step is at most half a block on each axis
+-- the number of steps between the samples of the segment from a to e: a step is at most half a block on each axis
 abbrev pub steps_of : (s : ℤ) → (a e : Vec3) → ℕ
 steps_of s a e = 1 + unsigned_abs (floor_div (pos 2 *ℤ pos (spread a e)) (pos 8 *ℤ s))
 
@@ -33,15 +33,15 @@ segment_blocks s a e = map (λ j. block_at s (segment_point a e (steps_of s a e)
 
 -- ---- a pixel
 
--- where the segment of a pixel that shows depth d begins: mu before it, but not behind the camera; it ends mu behind it
+-- where the segment of a pixel that shows depth d begins: mu before the depth, but not behind the camera
 abbrev pub segment_start : View → (u v : ℕ) → (d : ℤ) → Vec3
 segment_start w u v d = world w.pose (ray w.camera (pos u) (pos v) (int_max (pos 1) (d -ℤ w.camera.mu)))
 
--- where it ends
+-- where it ends: mu behind the depth
 abbrev pub segment_end : View → (u v : ℕ) → (d : ℤ) → Vec3
 segment_end w u v d = world w.pose (ray w.camera (pos u) (pos v) (d +ℤ w.camera.mu))
 
--- the blocks of a pixel by the depth that it shows, if it does
+-- the blocks of a pixel by the depth that it shows, if any
 abbrev pub blocks_round : View → (u v : ℕ) → Option ℤ → List BlockKey
 blocks_round w u v None = []
 blocks_round w u v (Some d) = segment_blocks w.camera.voxel (segment_start w u v d) (segment_end w u v d)
@@ -52,7 +52,7 @@ pixel_blocks w u v = blocks_round w u v (depth_at w u v)
 
 -- ---- the whole frame
 
--- block b is one of the band: a pixel shows a depth, and b is the block of a sample of its segment
+-- block b is in the band: a pixel shows a depth, and b is the block of a sample of the pixel's segment
 pub record IsInBand (w : View) (b : BlockKey) : Type 0 where
   pub u : ℕ
   pub v : ℕ
@@ -72,8 +72,8 @@ row_blocks w v = flat_map (λ u. pixel_blocks w u v) (range_with_len 0 w.depths.
 abbrev pub band : View → List BlockKey
 band w = flat_map (row_blocks w) (range_with_len 0 w.depths.height)
 
--- ---- without neighbours
+-- ---- without repeats
 
--- the keys of a row: its blocks, each left out that is equal to the one just before
+-- the keys of a row: its blocks, without those that are equal to the one just before
 abbrev pub row_keys : View → (v : ℕ) → List BlockKey
 row_keys w v = dedup (eq_by_cmp key_cmp) (row_blocks w v)

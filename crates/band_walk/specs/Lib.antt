@@ -1,4 +1,4 @@
 pub mod Bands
 pub mod Laws
-pub mod Left
-pub mod Rest
+pub mod Remaining
+pub mod RemainingKeys

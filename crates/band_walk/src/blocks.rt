@@ -1,14 +1,14 @@
 ghost use Rattle.std.specs.Prelude.{◌≡◌, IsTrue, ◌↔◌, Some};
 ghost use Rattle.std.specs.Iterator.{YieldsFirst};
 ghost use Rattle.band_walk.specs.Bands.{row_blocks};
-ghost use Rattle.band_walk.specs.Left.{GivesKey, IsRow, IsPartway, blocks_left, view_of_row};
+ghost use Rattle.band_walk.specs.Remaining.{GivesKey, IsRow, IsRowBlocks, remaining_blocks, view_of_row};
 
 use crate::row::Row;
 use crate::segment::Segment;
 use camera::Camera;
 use voxel_block::BlockKey;
 
-/// The blocks of a row that are still to come: those of a segment, and those of the pixels from `u` on.
+/// The remaining blocks of a row: those of a segment, and then those of the pixels from column `u` on.
 #[derive(Drop)]
 pub(crate) struct RowBlocks<'a> {
     row: Row<'a>,
@@ -17,24 +17,24 @@ pub(crate) struct RowBlocks<'a> {
 }
 
 impl<'a> RowBlocks<'a> {
-    /// All blocks of the row. A voxel has the size that the camera says.
+    /// All blocks of the row.
     pub(crate) fn of(row: Row<'a>, camera: &Camera) -> RowBlocks<'a>
         requires row { IsRow row }
-        ensures left { blocks_left result ≡ row_blocks (view_of_row row.entry) row.entry.v }
-        ensures partway { IsPartway result }
+        ensures remaining { remaining_blocks result ≡ row_blocks (view_of_row row.entry) row.entry.v }
+        ensures in_order { IsRowBlocks result }
     {
         RowBlocks {
             row,
             u: 0,
-            segment: Segment::spent(camera.fields().voxel),
+            segment: Segment::empty(camera.fields().voxel),
         }
     }
 
     /// The next block.
     pub(crate) fn next_block(&mut self) -> Option<BlockKey>
-        requires { IsPartway self.old }
-        ensures gives { YieldsFirst blocks_left self.old result self.new }
-        ensures partway { IsPartway self.new }
+        requires { IsRowBlocks self.old }
+        ensures gives { YieldsFirst remaining_blocks self.old result self.new }
+        ensures in_order { IsRowBlocks self.new }
     {
         loop {
             if let Some(key) = self.segment.next_block() {
@@ -51,9 +51,9 @@ impl<'a> RowBlocks<'a> {
 
 /// The next block that is not the one given last.
 pub(crate) fn next_key(blocks: &mut RowBlocks<'_>, last: Option<BlockKey>) -> Option<BlockKey>
-    requires { IsPartway blocks.old }
+    requires { IsRowBlocks blocks.old }
     ensures gives { GivesKey last blocks.old result blocks.new }
-    ensures partway { IsPartway blocks.new }
+    ensures in_order { IsRowBlocks blocks.new }
 {
     loop {
         let key = blocks.next_block()?;

@@ -1,7 +1,7 @@
 ghost use Rattle.band_walk.specs.Laws.{BandIsASet, BandIsActive, RowsAreTheBand};
 
-/// Each block of a frame's band is active for the frame, and its coordinates are from -18876 to 18875. The body is
-/// empty: the clause is the theorem.
+/// Each block of a frame's band is active for the frame, its coordinates are from -18876 to 18875, and 8 voxel sizes times
+/// each of them is at most 2^30 either way. The body is empty: the clause is the theorem.
 pub fn band_is_active()
     ensures { BandIsActive }
 {}
@@ -11,7 +11,7 @@ pub fn band_is_a_set()
     ensures { BandIsASet }
 {}
 
-/// The keys of all rows, without neighbours, are the blocks of the band and no other.
+/// The keys of all rows are the blocks of the band and no other.
 pub fn rows_are_the_band()
     ensures { RowsAreTheBand }
 {}

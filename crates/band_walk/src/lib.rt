@@ -2,9 +2,7 @@
 #![tactic(auto)]
 
 mod blocks;
-mod floor;
 pub mod laws;
-mod ray;
 mod row;
 mod segment;
 mod walk;

@@ -49,7 +49,7 @@ const WIDE: CameraFields = CameraFields {
     ..PIXEL
 };
 
-// Two rows of two pixels that look a thousandth aside, and so through the same blocks.
+// Two rows of two pixels whose rays differ by a thousandth, and so pass through the same blocks.
 const NARROW: CameraFields = CameraFields {
     width: 2,
     height: 2,
@@ -78,8 +78,7 @@ fn collected(
     Ok(keys)
 }
 
-// The keys of row `v` of the samples, seen from the origin. `None` where the camera or the pose is none, or memory is
-// wanting.
+// The keys of row `v` of the samples, taken from the origin. `None` where the camera or the pose is refused, or out of memory.
 fn keys(
     alloc: Global,
     fields: CameraFields,
@@ -119,47 +118,56 @@ fn same(keys: Option<Vec<BlockKey>>, expected: &[(i16, i16, i16)]) -> bool {
 #[test]
 fn keys_of_rows(rt: HostRuntime) {
     let alloc = rt.alloc();
-    for (r, sample, expected) in [
-        (AHEAD, 1000, [(0, 0, 12), (0, 0, 13)].as_slice()),
-        (AHEAD, 0, &[]),
-        (AHEAD, 499, &[]),
-        (AHEAD, 500, &[(0, 0, 5), (0, 0, 6)]),
-        (AHEAD, 2000, &[(0, 0, 24), (0, 0, 25)]),
-        (AHEAD, 2001, &[]),
-        (BACK, 1000, &[(0, 0, -12), (0, 0, -13)]),
+    for (name, r, sample, expected) in [
+        ("ahead", AHEAD, 1000, [(0, 0, 12), (0, 0, 13)].as_slice()),
+        ("no depth", AHEAD, 0, &[]),
+        ("before the nearest depth", AHEAD, 499, &[]),
+        ("the nearest depth", AHEAD, 500, &[(0, 0, 5), (0, 0, 6)]),
+        ("the greatest depth", AHEAD, 2000, &[(0, 0, 24), (0, 0, 25)]),
+        ("after the greatest depth", AHEAD, 2001, &[]),
+        ("half a turn", BACK, 1000, &[(0, 0, -12), (0, 0, -13)]),
     ] {
         let found = keys(alloc, PIXEL, r, 1, 1, &[sample], 0);
-        assert!(rt; same(found, expected), "at {}", sample);
+        assert!(rt; same(found, expected), "{}", name);
     }
     let found = keys(alloc, NEAR_PIXEL, AHEAD, 1, 1, &[1], 0);
-    assert!(rt; same(found, &[(0, 0, 0), (0, 0, 1)]));
-    for (samples, expected) in [
-        ([0, 1000], [(12, 0, 12), (13, 0, 13)].as_slice()),
+    assert!(rt; same(found, &[(0, 0, 0), (0, 0, 1)]), "from the camera on");
+    for (name, samples, expected) in [
         (
+            "the second pixel",
+            [0, 1000],
+            [(12, 0, 12), (13, 0, 13)].as_slice(),
+        ),
+        (
+            "both pixels",
             [1000, 1000],
             &[(0, 0, 12), (0, 0, 13), (12, 0, 12), (13, 0, 13)],
         ),
     ] {
         let found = keys(alloc, WIDE, AHEAD, 2, 1, &samples, 0);
-        assert!(rt; same(found, expected), "from {}", samples[0]);
+        assert!(rt; same(found, expected), "{}", name);
     }
-    for (samples, v, expected) in [
-        // a neighbour left out between two pixels
+    for (name, samples, v, expected) in [
         (
+            "a repeat left out between two pixels",
             [1000, 1080, 0, 0],
             0,
             [(0, 0, 12), (0, 0, 13), (0, 0, 14)].as_slice(),
         ),
-        // the same keys again
         (
+            "the same keys again",
             [1000, 1000, 0, 0],
             0,
             &[(0, 0, 12), (0, 0, 13), (0, 0, 12), (0, 0, 13)],
         ),
-        // a row begins with the last key of the row before
-        ([1000, 0, 1080, 0], 1, &[(0, 0, 13), (0, 0, 14)]),
+        (
+            "a row begins with the last key of the row before",
+            [1000, 0, 1080, 0],
+            1,
+            &[(0, 0, 13), (0, 0, 14)],
+        ),
     ] {
         let found = keys(alloc, NARROW, AHEAD, 2, 2, &samples, v);
-        assert!(rt; same(found, expected), "row {}", v);
+        assert!(rt; same(found, expected), "{}", name);
     }
 }

@@ -2,7 +2,7 @@ ghost use Rattle.std.specs.Prelude.{◌≡◌, ◌<◌};
 ghost use Rattle.std.specs.Iterator.{YieldsFirst, item_count};
 ghost use Rattle.depth_view.specs.Views.{FitsImage, view_of};
 ghost use Rattle.band_walk.specs.Bands.{row_keys};
-ghost use Rattle.band_walk.specs.Rest.{rest};
+ghost use Rattle.band_walk.specs.RemainingKeys.{remaining_keys};
 
 use crate::blocks::{RowBlocks, next_key};
 use crate::row::Row;
@@ -12,10 +12,10 @@ use fixed_geom::Pose;
 use std::marker::Model;
 use voxel_block::BlockKey;
 
-/// The keys of the blocks of a row of pixels that are still to come: the blocks near the depth that each pixel shows,
-/// sampled along the pixel's ray through the truncation band round it.
+/// The remaining keys of a row of pixels: those of the blocks near the depth that each pixel shows, sampled along the
+/// pixel's ray through the truncation band round that depth.
 ///
-/// The choice of the samples is this project's own. A key is left out that is equal to the one given just before it, and
+/// The choice of the samples is this project's own. A key that is equal to the one given just before it is left out, and
 /// may come again later.
 #[derive(Drop)]
 pub struct BandWalk<'a> {
@@ -26,22 +26,22 @@ pub struct BandWalk<'a> {
 impl<'a> Model for BandWalk<'a> {
     ghost use Rattle.std.specs.Prelude.{List};
     ghost use Rattle.voxel_block.specs.declared.key.BlockKey.{BlockKey};
-    ghost use Rattle.band_walk.specs.Left.{IsPartway, blocks_left, keys_after};
+    ghost use Rattle.band_walk.specs.Remaining.{IsRowBlocks, remaining_blocks, keys_after};
 
     ghost Value = { List BlockKey };
 
-    ghost view = { λ w. keys_after w.last (blocks_left w.blocks) };
+    ghost view = { λ w. keys_after w.last (remaining_blocks w.blocks) };
 
-    ghost invariant = { λ w. IsPartway w.blocks };
+    ghost invariant = { λ w. IsRowBlocks w.blocks };
 }
 
 impl<'a> BandWalk<'a> {
-    /// The blocks of row `v` of a frame's truncation band, by column and then by sample, a key left out that is equal
-    /// to the one given just before it. Takes no memory.
+    /// The keys of row `v` of a frame's truncation band, by column and then by sample. A key that is equal to the one
+    /// given just before it is left out. Takes no memory.
     pub fn over(camera: &'a Camera, pose: &'a Pose, frame: &'a DepthFrame, v: u32) -> BandWalk<'a>
         requires fits { FitsImage camera.now frame.now }
         requires row { v < frame.now.height }
-        ensures { rest result ≡ row_keys (view_of camera.now pose.now frame.now) v }
+        ensures { remaining_keys result ≡ row_keys (view_of camera.now pose.now frame.now) v }
     {
         let row = Row::of(camera, pose, frame, v);
         BandWalk {
@@ -54,9 +54,9 @@ impl<'a> BandWalk<'a> {
 impl<'a> Iterator for BandWalk<'a> {
     type Item = BlockKey;
 
-    ghost next_gives = { YieldsFirst rest };
+    ghost next_gives = { YieldsFirst remaining_keys };
 
-    ghost remaining = { item_count rest };
+    ghost remaining = { item_count remaining_keys };
 
     /// The next key.
     fn next(&mut self) -> Option<BlockKey> {

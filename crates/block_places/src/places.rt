@@ -2,7 +2,7 @@ ghost use Rattle.std.specs.Prelude.{◌≡◌, ◌^◌, ◌<◌, ◌+◌, ◌*�
 ghost use Rattle.std.specs.FinMap.{contains_key, empty, get, insert, keys, len, remove};
 ghost use Rattle.std.specs.Int.{IsPowerOfTwo};
 ghost use Rattle.voxel_block.specs.Blocks.{new_block};
-ghost use Rattle.spatial_hash.specs.Table.{empty as empty_table};
+ghost use Rattle.spatial_hash.specs.Table.{KeepsSize, empty as empty_table};
 ghost use Rattle.spatial_hash.specs.Contents.{contents};
 ghost use Rattle.block_heap.specs.Cells.{new_cells};
 ghost use Rattle.block_places.specs.Places.{IsPlaced, blocks_of, touched};
@@ -141,6 +141,7 @@ impl Places {
         ensures ok { OnOk result (self.new ≡ touched self.old key) }
         ensures err { OnErr result (self.new ≡ self.old) }
         ensures blocks { OnOk result (blocks_of self.new ≡ (if contains_key (blocks_of self.old) key then blocks_of self.old else insert (blocks_of self.old) key new_block)) }
+        ensures size { KeepsSize self.old.table self.new.table }
         ensures placed { IsPlaced self.new }
     {
         if self.is_away(key) {
@@ -161,6 +162,7 @@ impl Places {
         requires stored { contains_key (contents self.old.table) key ≡ false }
         ensures value { self.new ≡ record self.old { slots = remove self.old.slots key } }
         ensures blocks { blocks_of self.new ≡ remove (blocks_of self.old) key }
+        ensures size { KeepsSize self.old.table self.new.table }
         ensures placed { IsPlaced self.new }
     {
         self.slots.remove(&key);

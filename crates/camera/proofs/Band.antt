@@ -13,7 +13,7 @@ use Rattle.voxel_block.specs.declared.key.BlockKey.{BlockKey}
 use Rattle.camera.specs.declared.camera.CameraFields.{CameraFields}
 use Rattle.camera.specs.Grid.{centre_of, block_at, is_key}
 use Rattle.camera.specs.Cameras.{within, HasRanges, HasReach, FitsSphere, max_depth, reach_x, reach_y, opening_margin, ray, is_active}
-use Rattle.camera.specs.Visibility.{IsPiercedOn, IsPiercedAt, IsNearBlock, sample_of}
+use Rattle.camera.specs.Visibility.{IsPiercedOn, IsPiercedAt, IsInReach, IsNearBlock, sample_of}
 use Rattle.camera.proofs.RangeLemmas.{between, is_between}
 use Rattle.camera.proofs.RayLemmas.{ray_world}
 use Rattle.camera.proofs.Keys.{key_holds}
@@ -178,13 +178,13 @@ on_axis s p q a e b s1 p0 pq q1 ia ie i =
     let t = borders s p q a e b p0 pq q1 ia ie i in
     record { low = key_low s b s1 t.0; high = key_high s b s1 t.1 }
 
--- the point of a pierced block's lowest corner is within 151806226 of the origin, on one axis
-pub pierced_corner : (s p q a e b : ℤ) → pos 0 ≤ℤ s → s ≤ℤ pos 100000 → pos 0 ≤ℤ p → p ≤ℤ q → pos 1 ≤ℤ q → IsWithin (pos 151006226) a → IsWithin (pos 151006226) e → IsPiercedOn s p q a e b → IsWithin (pos 151806226) (pos 8 *ℤ s *ℤ b)
+-- a pierced block begins within 151806226 of the origin, on one axis
+pierced_corner : (s p q a e b : ℤ) → pos 0 ≤ℤ s → s ≤ℤ pos 100000 → pos 0 ≤ℤ p → p ≤ℤ q → pos 1 ≤ℤ q → IsWithin (pos 151006226) a → IsWithin (pos 151006226) e → IsPiercedOn s p q a e b → IsWithin (pos 1073741824) (pos 8 *ℤ s *ℤ b)
 pierced_corner s p q a e b s0 s1 p0 pq q1 ia ie i =
     let t = borders s p q a e b p0 pq q1 ia ie i in
     plain s (pos 8 *ℤ s *ℤ b) (pos 8 *ℤ s *ℤ (b +ℤ pos 1)) (pos 8 *ℤ s *ℤ pos 1) (mul_sum (pos 8 *ℤ s) b (pos 1)) (omega (arith, ints)) s0 s1 t.0 t.1
   where
-    plain : (s x y z : ℤ) → y ≡ x +ℤ z → z ≡ pos 8 *ℤ s → pos 0 ≤ℤ s → s ≤ℤ pos 100000 → (neg_ℤ (pos 151006226)) ≤ℤ y → x ≤ℤ pos 151006226 → IsWithin (pos 151806226) x
+    plain : (s x y z : ℤ) → y ≡ x +ℤ z → z ≡ pos 8 *ℤ s → pos 0 ≤ℤ s → s ≤ℤ pos 100000 → (neg_ℤ (pos 151006226)) ≤ℤ y → x ≤ℤ pos 151006226 → IsWithin (pos 1073741824) x
     plain s x y z e f a b c d = record { low = omega (arith, ints); high = omega (arith, ints) }
 
 within_key : (z : ℤ) → IsBetween (neg_ℤ (pos 18876)) (pos 18875) z → IsTrue (within (neg_ℤ (pos 18876)) (pos 18875) z)
@@ -217,6 +217,22 @@ pub band_is_near : (k : CameraFields) (m : Pose) (u v y z p q : ℤ) (b : BlockK
     → IsPiercedAt k.voxel p q (world m (ray k u v y)) (world m (ray k u v z)) b → IsNearBlock b
 band_is_near k m u v y z p q b r h o i y1 yd z1 zd at =
     pierced_is_near k.voxel p q (world m (ray k u v y)) (world m (ray k u v z)) b r.voxel (ray_world k m u v y r h o i.u_low i.u_high i.v_low i.v_high y1 yd) (ray_world k m u v z r h o i.u_low i.u_high i.v_low i.v_high z1 zd) at
+
+-- and it begins within 2^30 of the origin on each axis
+pub band_is_in_reach : (k : CameraFields) (m : Pose) (u v y z p q : ℤ) (b : BlockKey) → HasRanges k → HasReach k → HasPoseRange m → IsPixel k u v → pos 1 ≤ℤ y → y ≤ℤ max_depth k → pos 1 ≤ℤ z → z ≤ℤ max_depth k
+    → IsPiercedAt k.voxel p q (world m (ray k u v y)) (world m (ray k u v z)) b → IsInReach k.voxel b
+band_is_in_reach k m u v y z p q b r h o i y1 yd z1 zd at =
+    let s = k.voxel in
+    let a = world m (ray k u v y) in
+    let e = world m (ray k u v z) in
+    let s0 : pos 0 ≤ℤ s = omega (arith, ints, r.voxel) in
+    let ia = ray_world k m u v y r h o i.u_low i.u_high i.v_low i.v_high y1 yd in
+    let ie = ray_world k m u v z r h o i.u_low i.u_high i.v_low i.v_high z1 zd in
+    record {
+      x = pierced_corner s p q a.x e.x b.x s0 r.voxel_high at.start at.finish at.divisor ia.x ie.x at.x;
+      y = pierced_corner s p q a.y e.y b.y s0 r.voxel_high at.start at.finish at.divisor ia.y ie.y at.y;
+      z = pierced_corner s p q a.z e.z b.z s0 r.voxel_high at.start at.finish at.divisor ia.z ie.z at.z;
+    }
 
 -- the block of a sample of a segment is pierced
 pub sample_is_pierced : (s j n : ℤ) (a e : Vec3) → pos 1 ≤ℤ s → pos 0 ≤ℤ j → j ≤ℤ n → pos 1 ≤ℤ n → IsPiercedAt s j n a e (block_at s (sample_of j n a e))

@@ -6,7 +6,7 @@ use Rattle.std.proofs.lemmas.Bool.{ne_eqb}
 use Rattle.std.specs.Bool.{then_some}
 use Rattle.std.proofs.lemmas.Int.{ints, to_z-of_z}
 use mir.Val.{SFits, to_z, of_z}
-use mir.Syntax.{w64, w128}
+use mir.Syntax.{w64}
 use Rattle.fixed_geom.specs.declared.vector.Vec3.{Vec3}
 use Rattle.fixed_geom.specs.Division.{IsFloor, floor_div}
 use Rattle.fixed_geom.specs.Vectors.{IsWithin, AreWithin}
@@ -14,8 +14,8 @@ use Rattle.fixed_geom.proofs.Dots.{within_product}
 use Rattle.fixed_geom.proofs.Whole.{sum_mul, mul_difference, mul_turn, mul_order}
 use Rattle.fixed_geom.proofs.Floors.{floor_is, floor_nest, floor_div_is, floor_above, floor_below}
 use Rattle.camera.specs.declared.camera.CameraFields.{CameraFields}
-use Rattle.camera.proofs.Readings.{read, fields_read, wide_read}
-use Rattle.camera.specs.Cameras.{HasRanges, within, pixel_axis, depth_of, project}
+use Rattle.camera.proofs.Readings.{read, read128, fields_read, fits64, wide_read}
+use Rattle.camera.specs.Cameras.{HasRanges, within, is_in_image, pixel_axis, depth_of, project}
 
 -- the pixel coordinate is the floor of the floor by 2^16
 pub pixel_is : (f c x z : ℤ) → pos 1 ≤ℤ z → floor_div (floor_div (f *ℤ x +ℤ c *ℤ z +ℤ pos 32768 *ℤ z) (pos 65536)) z ≡ pixel_axis f c x z
@@ -75,23 +75,33 @@ across_read b s w z fits small near h e =
     less : (p : ℤ) → IsWithin (pos 9007199254740992) p → to_z w64 (of_z w64 (p -ℤ pos 1)) ≡ p -ℤ pos 1
     less p i = omega (arith, ints)
 
--- the dividend of a pixel coordinate, as the machine reads it
-pub dividend_is : (p q f c x z : ℤ) → IsWithin (pos 1073741824) f → IsWithin (pos 134217728) c → IsWithin (pos 4398046511104) x → IsWithin (pos 4398046511104) z
-    → p ≡ to_z w64 (of_z w64 f) *ℤ to_z w64 (of_z w64 x) → unsigned_abs p ≤ 2 ^ 72
-    → q ≡ to_z w64 (of_z w64 (to_z w64 (of_z w64 c) +ℤ pos 32768)) *ℤ to_z w64 (of_z w64 z) → unsigned_abs q ≤ 2 ^ 72
-    → (to_z w128 (of_z w128 (to_z w128 (of_z w128 p) +ℤ to_z w128 (of_z w128 q))) ≡ f *ℤ x +ℤ c *ℤ z +ℤ pos 32768 *ℤ z) × (unsigned_abs (f *ℤ x +ℤ c *ℤ z +ℤ pos 32768 *ℤ z) ≤ 2 ^ 73)
-dividend_is p q f c x z fb cb xb zb e small g little =
-    let ef : to_z w64 (of_z w64 f) ≡ f = omega (arith, ints) in
-    let ex : to_z w64 (of_z w64 x) ≡ x = omega (arith, ints) in
-    let ez : to_z w64 (of_z w64 z) ≡ z = omega (arith, ints) in
-    let ec : to_z w64 (of_z w64 (to_z w64 (of_z w64 c) +ℤ pos 32768)) ≡ c +ℤ pos 32768 = omega (arith, ints) in
-    let one : p ≡ f *ℤ x = e ∙ rw (ef, ex) refl in
-    let two : q ≡ c *ℤ z +ℤ pos 32768 *ℤ z = g ∙ rw (ec, ez) (sum_mul c (pos 32768) z) in
-    plain p q (f *ℤ x) (c *ℤ z) z one small two little
+-- the dividend of a pixel coordinate, by two products as they are read
+pub dividend_is : (s t f c x z : ℤ) → read f ≡ f → read x ≡ x → read z ≡ z → IsWithin (pos 134217728) c → s ≡ read f *ℤ read x → t ≡ read (read c +ℤ pos 32768) *ℤ read z → s +ℤ t ≡ f *ℤ x +ℤ c *ℤ z +ℤ pos 32768 *ℤ z
+dividend_is s t f c x z ef ex ez cb e g =
+    let ec : read (read c +ℤ pos 32768) ≡ c +ℤ pos 32768 = omega (arith, ints) in
+    let one : s ≡ f *ℤ x = e ∙ rw (ef, ex) refl in
+    let two : t ≡ c *ℤ z +ℤ pos 32768 *ℤ z = g ∙ rw (ec, ez) (sum_mul c (pos 32768) z) in
+    joined s t (f *ℤ x) (c *ℤ z) (pos 32768 *ℤ z) one two
   where
-    plain : (p q fx cz z : ℤ) → p ≡ fx → unsigned_abs p ≤ 2 ^ 72 → q ≡ cz +ℤ pos 32768 *ℤ z → unsigned_abs q ≤ 2 ^ 72
-        → (to_z w128 (of_z w128 (to_z w128 (of_z w128 p) +ℤ to_z w128 (of_z w128 q))) ≡ fx +ℤ cz +ℤ pos 32768 *ℤ z) × (unsigned_abs (fx +ℤ cz +ℤ pos 32768 *ℤ z) ≤ 2 ^ 73)
-    plain p q fx cz z e h g i = (omega (arith, ints), omega (arith, ints))
+    joined : (s t a b d : ℤ) → s ≡ a → t ≡ b +ℤ d → s +ℤ t ≡ a +ℤ b +ℤ d
+    joined s t a b d e f = omega (arith, ints)
+
+-- the sum of two products of 128 bits, and of two of 64
+pub wide_sum : (s t : ℤ) → unsigned_abs s ≤ 2 ^ 72 → unsigned_abs t ≤ 2 ^ 72 → (read128 (read128 s +ℤ read128 t) ≡ s +ℤ t) × (unsigned_abs (s +ℤ t) ≤ 2 ^ 73)
+wide_sum s t h i = (omega (arith, ints), omega (arith, ints))
+
+pub near_sum : (s t : ℤ) → IsWithin (pos 72057594037927936) s → IsWithin (pos 72057594037927936) t → (read (read s +ℤ read t) ≡ s +ℤ t) × IsWithin (pos 144115188075855872) (s +ℤ t)
+near_sum s t v w =
+    let one : read s ≡ s = omega (arith, ints) in
+    let two : read t ≡ t = omega (arith, ints) in
+    let three : read (s +ℤ t) ≡ s +ℤ t = omega (arith, ints) in
+    (rw (one, two, three) refl, record { low = omega (arith, ints); high = omega (arith, ints) })
+
+pub near_fits : (s t : ℤ) → IsWithin (pos 72057594037927936) s → IsWithin (pos 72057594037927936) t → SFits w64 (read s +ℤ read t)
+near_fits s t v w =
+    let one : read s ≡ s = omega (arith, ints) in
+    let two : read t ≡ t = omega (arith, ints) in
+    rw (one, two) (fits64 (s +ℤ t) (record { low = omega (arith, ints); high = omega (arith, ints) }))
 
 -- its quotient by 2^16 is small
 pub quotient_within : (a : ℤ) → unsigned_abs a ≤ 2 ^ 73 → IsWithin (pos 1152921504606846976) (floor_div a (pos 65536))
@@ -146,14 +156,9 @@ columns k p r w h = let e = fields_read k r in record { front = h; f_read = e.fx
 pub rows : (k : CameraFields) (p : Vec3) → HasRanges k → AreWithin (pos 4398046511104) p → pos 1 ≤ℤ p.z → IsAxis k.fy k.cy p.y p.z k.height
 rows k p r w h = let e = fields_read k r in record { front = h; f_read = e.fy; c_read = e.cy; x_read = wide_read p.y w.y; z_read = wide_read p.z w.z; w_read = e.height }
 
--- the test of an axis, and its pixel coordinate
-pub axis_test : (f c x z w : ℤ) (b : Bool) (s : ℤ) → IsAxis f c x z w → SFits w64 s
-    → s ≡ floor_div (read f *ℤ read x +ℤ read c *ℤ read z +ℤ pos 32768 *ℤ read z) (pos 65536) → b ≡ within (pos 0) (read w -ℤ pos 1) (floor_div (read s) (read z)) → b ≡ within (pos 0) (w -ℤ pos 1) (pixel_axis f c x z)
-axis_test f c x z w b s a fits is e = e ∙ rw (to_z-of_z w64 s fits, is, a.f_read, a.c_read, a.x_read, a.z_read, a.w_read, pixel_is f c x z a.front) refl
-
-pub axis_pixel : (f c x z w : ℤ) (n : ℕ) (s : ℤ) → IsAxis f c x z w → SFits w64 s
-    → s ≡ floor_div (read f *ℤ read x +ℤ read c *ℤ read z +ℤ pos 32768 *ℤ read z) (pos 65536) → pos n ≡ floor_div (read s) (read z) → pos n ≡ pixel_axis f c x z
-axis_pixel f c x z w n s a fits is e = e ∙ rw (to_z-of_z w64 s fits, is, a.f_read, a.c_read, a.x_read, a.z_read, pixel_is f c x z a.front) refl
+-- the pixel coordinate of an axis
+axis_is : (f c x z w s : ℤ) → IsAxis f c x z w → SFits w64 s → s ≡ floor_div (read f *ℤ read x +ℤ read c *ℤ read z +ℤ pos 32768 *ℤ read z) (pos 65536) → floor_div (read s) (read z) ≡ pixel_axis f c x z
+axis_is f c x z w s a fits is = rw (to_z-of_z w64 s fits, is, a.f_read, a.c_read, a.x_read, a.z_read, pixel_is f c x z a.front) refl
 
 -- a quotient that passed its test is at most 2047
 pub quotient_high : (b : Bool) (q w : ℤ) → read w ≡ w → w ≤ℤ pos 2048 → b ≡ within (pos 0) (read w -ℤ pos 1) q → b ≡ true → q ≤ℤ pos 2047
@@ -166,28 +171,13 @@ below_read b n q w ew is e t = let p = within_tells (pos 0) (read w -ℤ pos 1) 
 front_holds : (z : ℤ) → pos 1 ≤ℤ z → IsTrue (int_le (pos 1) z)
 front_holds z h = search rules
 
-first_fails : {X : Type 0} (h a b : Bool) (x : X) → a ≡ false → None ≡ cond (h && (a && b)) (Some x) None
-first_fails true true b x e = absurd (cc)
-first_fails true false b x e = refl
-first_fails false a b x e = refl
-
-second_fails : {X : Type 0} (h a b : Bool) (x : X) → b ≡ false → None ≡ cond (h && (a && b)) (Some x) None
-second_fails true true true x e = absurd (cc)
-second_fails true true false x e = refl
-second_fails true false b x e = refl
-second_fails false a b x e = refl
-
-both_hold : (h a b : Bool) (q r : ℤ) (n m : ℕ) → h ≡ true → a ≡ true → b ≡ true → pos n ≡ q → pos m ≡ r → ◌≡◌ {A = Option (ℕ × ℕ)} (Some (n, m)) (cond (h && (a && b)) (Some (unsigned_abs q, unsigned_abs r)) None)
-both_hold h a b q r n m e f g i j = rw (e, f, g, ← i, ← j) refl
-
--- the three answers
-pub no_column : (k : CameraFields) (p : Vec3) (b : Bool) → pos 1 ≤ℤ p.z → b ≡ within (pos 0) (k.width -ℤ pos 1) (pixel_axis k.fx k.cx p.x p.z) → b ≡ false → None ≡ project k p
-no_column k p b h e f = first_fails (int_le (pos 1) p.z) _ _ _ (sym e ∙ f)
-
-pub no_row : (k : CameraFields) (p : Vec3) (a b : Bool) → pos 1 ≤ℤ p.z → a ≡ within (pos 0) (k.width -ℤ pos 1) (pixel_axis k.fx k.cx p.x p.z) → a ≡ true
-    → b ≡ within (pos 0) (k.height -ℤ pos 1) (pixel_axis k.fy k.cy p.y p.z) → b ≡ false → None ≡ project k p
-no_row k p a b h d t e f = second_fails (int_le (pos 1) p.z) _ _ _ (sym e ∙ f)
-
-pub one_pixel : (k : CameraFields) (p : Vec3) (a b : Bool) (n m : ℕ) → pos 1 ≤ℤ p.z → a ≡ within (pos 0) (k.width -ℤ pos 1) (pixel_axis k.fx k.cx p.x p.z) → a ≡ true
-    → b ≡ within (pos 0) (k.height -ℤ pos 1) (pixel_axis k.fy k.cy p.y p.z) → b ≡ true → pos n ≡ pixel_axis k.fx k.cx p.x p.z → pos m ≡ pixel_axis k.fy k.cy p.y p.z → ◌≡◌ {A = Option (ℕ × ℕ)} (Some (n, m)) (project k p)
-one_pixel k p a b n m h d t e f i j = both_hold (int_le (pos 1) p.z) _ _ _ _ n m (front_holds p.z h) (sym d ∙ t) (sym e ∙ f) i j
+-- the projection of a point before the camera, by the pixel of the quotients
+pub projection_is : (k : CameraFields) (p : Vec3) (u v : ℤ) (r : Option (ℕ × ℕ)) → IsAxis k.fx k.cx p.x p.z k.width → IsAxis k.fy k.cy p.y p.z k.height → SFits w64 u → SFits w64 v
+    → u ≡ floor_div (read k.fx *ℤ read p.x +ℤ read k.cx *ℤ read p.z +ℤ pos 32768 *ℤ read p.z) (pos 65536) → v ≡ floor_div (read k.fy *ℤ read p.y +ℤ read k.cy *ℤ read p.z +ℤ pos 32768 *ℤ read p.z) (pos 65536)
+    → r ≡ cond (is_in_image k (floor_div (read u) (read p.z)) (floor_div (read v) (read p.z))) (Some (unsigned_abs (floor_div (read u) (read p.z)), unsigned_abs (floor_div (read v) (read p.z)))) None → r ≡ project k p
+projection_is k p u v r a b fu fv eu ev e =
+    e ∙ rw (axis_is k.fx k.cx p.x p.z k.width u a fu eu, axis_is k.fy k.cy p.y p.z k.height v b fv ev) (before (int_le (pos 1) p.z) (is_in_image k (pixel_axis k.fx k.cx p.x p.z) (pixel_axis k.fy k.cy p.y p.z)) _ (front_holds p.z a.front))
+  where
+    before : {X : Type 0} (h b : Bool) (x : X) → h ≡ true → cond b (Some x) None ≡ cond (h && b) (Some x) None
+    before true b x e = refl
+    before false b x e = absurd (cc)

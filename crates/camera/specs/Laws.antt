@@ -5,7 +5,7 @@ use Rattle.voxel_block.specs.declared.key.BlockKey.{BlockKey}
 use Rattle.camera.specs.declared.camera.CameraFields.{CameraFields}
 use Rattle.camera.specs.Cameras.{IsCamera, max_depth, is_active, ray}
 use Rattle.camera.specs.Grid.{block_of_voxel, is_key, nearest_voxel}
-use Rattle.camera.specs.Visibility.{IsMet, IsNearBlock, IsPiercedAt, MeetsNone, may_be_seen}
+use Rattle.camera.specs.Visibility.{IsInReach, IsMet, IsNearBlock, IsPiercedAt, MeetsNone, may_be_seen}
 
 -- no voxel of a block that may not be seen is met
 abbrev pub UnseenMeetsNone : Type 0
@@ -15,10 +15,10 @@ UnseenMeetsNone = (k : CameraFields) (m : Pose) (b : BlockKey) → IsCamera k �
 abbrev pub MetIsActive : Type 0
 MetIsActive = (k : CameraFields) (m : Pose) (b : BlockKey) (i : ℕ) → IsCamera k → IsPose m → i < 512 → IsMet k m b i → IsTrue (is_active k m b)
 
--- a block is active and its coordinates fit 16 bits with room to spare, if it is pierced by the segment between the world points of a pixel's ray at two depths that a frame may touch
+-- a block is active, its coordinates fit 16 bits with room to spare, and it begins within 2^30 of the origin on each axis, if it is pierced by the segment between the world points of a pixel's ray at two depths that a frame may touch
 abbrev pub PiercedIsActive : Type 0
 PiercedIsActive = (k : CameraFields) (m : Pose) (u v : ℕ) (y z p q : ℤ) (b : BlockKey) → IsCamera k → IsPose m → pos u <ℤ k.width → pos v <ℤ k.height → pos 1 ≤ℤ y → y ≤ℤ max_depth k → pos 1 ≤ℤ z → z ≤ℤ max_depth k
-    → IsPiercedAt k.voxel p q (world m (ray k (pos u) (pos v) y)) (world m (ray k (pos u) (pos v) z)) b → IsTrue (is_active k m b) × IsTrue (is_key b) × IsNearBlock b
+    → IsPiercedAt k.voxel p q (world m (ray k (pos u) (pos v) y)) (world m (ray k (pos u) (pos v) z)) b → IsTrue (is_active k m b) × IsTrue (is_key b) × IsNearBlock b × IsInReach k.voxel b
 
 -- the voxel nearest to the world point of a pixel's ray at a depth that a frame may touch lies in an active block whose coordinates fit 16 bits
 abbrev pub NearestIsActive : Type 0

@@ -3,7 +3,7 @@ use Rattle.std.specs.Prelude.{ℕ, ◌<◌, ◌&&◌, Bool, IsTrue, ℤ, pos, ne
 use Rattle.std.specs.Int.{int_max, int_min}
 use Rattle.fixed_geom.specs.Division.{floor_div}
 use Rattle.fixed_geom.specs.declared.vector.Vec3.{Vec3}
-use Rattle.fixed_geom.specs.Vectors.{vec}
+use Rattle.fixed_geom.specs.Vectors.{vec, IsWithin}
 use Rattle.fixed_geom.specs.Poses.{Pose, cam}
 use Rattle.voxel_block.specs.declared.key.BlockKey.{BlockKey}
 use Rattle.camera.specs.declared.camera.CameraFields.{CameraFields}
@@ -80,3 +80,9 @@ pub record IsNearBlock (b : BlockKey) : Type 0 where
   pub x : IsTrue (within (neg_ℤ (pos 18876)) (pos 18875) b.x)
   pub y : IsTrue (within (neg_ℤ (pos 18876)) (pos 18875) b.y)
   pub z : IsTrue (within (neg_ℤ (pos 18876)) (pos 18875) b.z)
+
+-- 8 s times each coordinate of a block, where it begins, is at most 2^30 either way
+pub record IsInReach (s : ℤ) (b : BlockKey) : Type 0 where
+  pub x : IsWithin (pos 1073741824) (pos 8 *ℤ s *ℤ b.x)
+  pub y : IsWithin (pos 1073741824) (pos 8 *ℤ s *ℤ b.y)
+  pub z : IsWithin (pos 1073741824) (pos 8 *ℤ s *ℤ b.z)

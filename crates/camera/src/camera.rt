@@ -6,7 +6,8 @@ ghost use Rattle.camera.specs.Opening.{camera_of, camera_tests, first_failing};
 ghost use Rattle.camera.specs.Visibility.{MeetsNone, may_be_seen};
 
 use crate::opening::{check_opening, failing_field};
-use crate::{grid, projection, ray, sphere, visibility};
+use crate::ray::PixelRays;
+use crate::{grid, projection, sphere, visibility};
 use fixed_geom::{Pose, Vec3};
 use std::marker::Model;
 use voxel_block::BlockKey;
@@ -102,7 +103,7 @@ impl Camera {
     }
 
     /// The point at depth `z` on the ray of the pixel in column `u` and row `v`, in the camera's
-    /// micrometres. It is within 17 metres on each axis.
+    /// micrometres. It is within 17 metres on each axis. For many points make the `PixelRays` once.
     pub fn ray(&self, u: u32, v: u32, z: i64) -> Vec3
         requires column { pos u <ℤ self.now.width }
         requires row { pos v <ℤ self.now.height }
@@ -111,7 +112,7 @@ impl Camera {
         ensures value { result ≡ ray_of self.now (pos u) (pos v) z }
         ensures bound { AreWithin (pos 17000000) result }
     {
-        ray::ray(&self.fields, u, v, z)
+        PixelRays::of(self).point(u, v, z)
     }
 
     /// The pixel (column, row) that a camera point projects to. `None` where the point is not before the
@@ -122,6 +123,15 @@ impl Camera {
         ensures inside { IfSome result (λ p. ((pos p.0) <ℤ self.now.width) × ((pos p.1) <ℤ self.now.height)) }
     {
         projection::project(&self.fields, c)
+    }
+
+    /// The same for a camera point within `2^26` micrometres on each axis, by numbers of 64 bits.
+    pub fn project_near(&self, c: Vec3) -> Option<(u32, u32)>
+        requires { AreWithin (pos (2 ^ 26)) c }
+        ensures value { result ≡ pixel_of self.now c }
+        ensures inside { IfSome result (λ p. ((pos p.0) <ℤ self.now.width) × ((pos p.1) <ℤ self.now.height)) }
+    {
+        projection::project_near(&self.fields, c)
     }
 
     /// Whether a block is active at a pose: its centre lies in the sphere before the camera. Where it is not, none of

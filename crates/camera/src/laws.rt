@@ -12,8 +12,8 @@ pub fn met_is_active()
     ensures { MetIsActive }
 {}
 
-/// A block is active, and its coordinates are from -18876 to 18875, if the segment between two
-/// points of a pixel's ray goes through it.
+/// A block is active, its coordinates are from -18876 to 18875, and 8 voxel sizes times each of them
+/// is at most 2^30 either way, if the segment between two points of a pixel's ray goes through it.
 pub fn pierced_is_active()
     ensures { PiercedIsActive }
 {}

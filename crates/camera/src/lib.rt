@@ -12,6 +12,7 @@ mod visibility;
 
 pub use camera::{BadCamera, Camera, CameraFields};
 pub use opening::first_failing;
+pub use ray::PixelRays;
 
 #[cfg(test)]
 mod tests;

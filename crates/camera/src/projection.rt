@@ -1,7 +1,7 @@
-ghost use Rattle.std.specs.Prelude.{◌≡◌, ◌^◌, pos, ◌+ℤ◌, ◌-ℤ◌, ◌*ℤ◌, ◌≤ℤ◌, ◌<ℤ◌, ◌≤◌, unsigned_abs, IfSome};
+ghost use Rattle.std.specs.Prelude.{◌≡◌, ◌^◌, pos, ◌+ℤ◌, ◌-ℤ◌, ◌*ℤ◌, ◌≤ℤ◌, ◌<ℤ◌, ◌≤◌, unsigned_abs, IfSome, Some, None, if◌then◌else◌};
 ghost use Rattle.fixed_geom.specs.Division.{floor_div};
 ghost use Rattle.fixed_geom.specs.Vectors.{AreWithin, IsWithin};
-ghost use Rattle.camera.specs.Cameras.{HasRanges, depth_of, project as pixel_of, within};
+ghost use Rattle.camera.specs.Cameras.{HasRanges, depth_of, is_in_image, project as pixel_of, within};
 
 use crate::camera::CameraFields;
 use fixed_geom::Vec3;
@@ -31,14 +31,41 @@ pub fn project(camera: &CameraFields, point: Vec3) -> Option<(u32, u32)>
         return None;
     }
     let u = pixel_times_depth(camera.fx, camera.cx, point.x, point.z);
-    if !is_across(u, camera.width, point.z) {
-        return None;
-    }
     let v = pixel_times_depth(camera.fy, camera.cy, point.y, point.z);
-    if !is_across(v, camera.height, point.z) {
+    pixel_in_image(camera, u, v, point.z)
+}
+
+/// The same for a camera point within `2^26` micrometres on each axis, by numbers of 64 bits.
+pub fn project_near(camera: &CameraFields, point: Vec3) -> Option<(u32, u32)>
+    requires camera { HasRanges camera.now }
+    requires point { AreWithin (pos (2 ^ 26)) point }
+    ensures value { result ≡ pixel_of camera.now point }
+    ensures inside { IfSome result (λ p. ((pos p.0) <ℤ camera.now.width) × ((pos p.1) <ℤ camera.now.height)) }
+{
+    if point.z <= 0 {
         return None;
     }
-    Some((pixel(u, point.z), pixel(v, point.z)))
+    let u = near_pixel_times_depth(camera.fx, camera.cx, point.x, point.z);
+    let v = near_pixel_times_depth(camera.fy, camera.cy, point.y, point.z);
+    pixel_in_image(camera, u, v, point.z)
+}
+
+/// The pixel with the coordinates `u / z` and `v / z`. `None` where it is not one of the image's, which costs no
+/// division.
+fn pixel_in_image(camera: &CameraFields, u: i64, v: i64, z: i64) -> Option<(u32, u32)>
+    requires camera { HasRanges camera.now }
+    requires z { IsWithin (pos (2 ^ 42)) z }
+    requires front { pos 1 ≤ℤ z }
+    ensures value { result ≡ (if is_in_image camera.now (floor_div u z) (floor_div v z) then Some (unsigned_abs (floor_div u z), unsigned_abs (floor_div v z)) else None) }
+    ensures inside { IfSome result (λ p. ((pos p.0) <ℤ camera.now.width) × ((pos p.1) <ℤ camera.now.height)) }
+{
+    if !is_across(u, camera.width, z) {
+        return None;
+    }
+    if !is_across(v, camera.height, z) {
+        return None;
+    }
+    Some((pixel(u, z), pixel(v, z)))
 }
 
 /// The pixel coordinate of a point at depth `z`, times `z`, as a floor.
@@ -61,6 +88,33 @@ fn times(a: i64, b: i64) -> i128
     i128::from(a) * i128::from(b)
 }
 
+/// The same for a point within `2^26`.
+fn near_pixel_times_depth(f: i64, c: i64, x: i64, z: i64) -> i64
+    requires f { IsWithin (pos (2 ^ 30)) f }
+    requires c { IsWithin (pos (2 ^ 27)) c }
+    requires x { IsWithin (pos (2 ^ 26)) x }
+    requires z { IsWithin (pos (2 ^ 26)) z }
+    ensures { result ≡ floor_div (f *ℤ x +ℤ c *ℤ z +ℤ pos 32768 *ℤ z) (pos 65536) }
+{
+    floor_div_65536(near_times(f, x) + near_times(c + 32768, z))
+}
+
+fn near_times(a: i64, b: i64) -> i64
+    requires a { IsWithin (pos (2 ^ 30)) a }
+    requires b { IsWithin (pos (2 ^ 26)) b }
+    ensures value { result ≡ a *ℤ b }
+    ensures bound { IsWithin (pos (2 ^ 56)) result }
+{
+    a * b
+}
+
+fn floor_div_65536(a: i64) -> i64
+    requires { IsWithin (pos (2 ^ 57)) a }
+    ensures { result ≡ floor_div a (pos 65536) }
+{
+    a >> 16
+}
+
 /// Whether the pixel coordinate `scaled / z` is one of the image's.
 fn is_across(scaled: i64, size: i64, z: i64) -> bool
     requires size { IsWithin (pos 2048) size }
@@ -77,12 +131,23 @@ fn is_between(low: i64, high: i64, value: i64) -> bool
     low <= value && value <= high
 }
 
-/// The pixel coordinate `scaled / z`.
+/// The pixel coordinate `scaled / z`. Where both fit 32 bits so does the division, which is far quicker then.
 fn pixel(scaled: i64, z: i64) -> u32
     requires front { pos 1 ≤ℤ z }
     requires low { pos 0 ≤ℤ floor_div scaled z }
     requires high { floor_div scaled z ≤ℤ pos 2047 }
     ensures { pos result ≡ floor_div scaled z }
 {
-    (scaled / z) as u32
+    if 0 <= scaled && scaled < 0x1_0000_0000 && z < 0x1_0000_0000 {
+        quotient(scaled as u32, z as u32)
+    } else {
+        (scaled / z) as u32
+    }
+}
+
+fn quotient(scaled: u32, z: u32) -> u32
+    requires { 1 ≤ z }
+    ensures { pos result ≡ floor_div (pos scaled) (pos z) }
+{
+    scaled / z
 }

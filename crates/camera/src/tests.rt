@@ -136,7 +136,14 @@ fn a_camera_takes_depths_and_pixels(rt: HostRuntime) -> Result<(), BadCamera> {
     }
     assert_eq!(rt; camera.project(point(0, 0, 1000000)), Some((0, 0)));
     assert_eq!(rt; camera.project(point(0, 0, 0)), None);
+    assert_eq!(rt; camera.project_near(point(0, 0, 1000000)), Some((0, 0)));
+    assert_eq!(rt; camera.project_near(point(1000000, 0, 1000000)), None);
+    assert_eq!(rt; camera.project_near(point(0, 0, 0)), None);
     assert_eq!(rt; camera.ray(0, 0, 1000000), point(0, 0, 1000000));
+    assert_eq!(rt;
+        PixelRays::of(&camera).point(0, 0, 1000000),
+        point(0, 0, 1000000)
+    );
     Ok(())
 }
 

@@ -2,9 +2,9 @@
 #![tactic(auto)]
 
 mod bounds;
+pub mod cam_q30;
 pub mod decimal;
 pub mod division;
-pub mod cam_q30;
 pub mod laws;
 mod near;
 pub mod pose;
@@ -14,8 +14,8 @@ mod spelling;
 mod tests;
 pub mod vector;
 
-pub use decimal::{BadNumber, read_decimal};
-pub use division::{floor_div, round_div};
 pub use cam_q30::CamQ30;
+pub use decimal::{BadNumber, read_decimal};
+pub use division::{floor_div, floor_div_from, round_div};
 pub use pose::{BadPose, Pose, PoseRows};
 pub use vector::Vec3;

@@ -1,5 +1,5 @@
 -- Machine numbers that are read as they are.
-use Rattle.std.proofs.Common.{◌≡◌, refl, arith}
+use Rattle.std.proofs.Common.{◌≡◌, ◌∙◌, ap, refl, subst, sym, arith}
 use Rattle.std.specs.Prelude.{ℤ, pos, negsuc, ◌+ℤ◌, ◌≤ℤ◌}
 use Rattle.std.proofs.lemmas.Int.{ints, to_z-of_z}
 use mir.Val.{SFits, to_z, of_z}
@@ -21,26 +21,16 @@ fits16 (negsuc n) w = record { sfits = omega (arith, ints) }
 pub same16 : (z : ℤ) → IsWithin (pos 32767) z → read16 z ≡ z
 same16 z w = to_z-of_z w16 z (fits16 z w)
 
--- a number of 32 or of 64 bits that is a small number, cast to 16 bits
-pub cast32_fits : (r z : ℤ) → r ≡ z → IsWithin (pos 32767) z → SFits w16 (read32 r)
-cast32_fits r z e w =
-    let one : read32 r ≡ r = omega (arith, ints) in
-    rw (one, e) (fits16 z w)
+-- y, cast to 16 bits, is z
+pub record IsCast (y z : ℤ) : Type 0 where
+  pub fits : SFits w16 y
+  pub is : read16 y ≡ z
+  pub within : IsWithin (pos 32767) (read16 y)
 
-pub cast32_is : (r z : ℤ) → r ≡ z → IsWithin (pos 32767) z → read16 (read32 r) ≡ z
-cast32_is r z e w =
-    let one : read32 r ≡ r = omega (arith, ints) in
-    rw (one, e) (same16 z w)
-
-pub cast64_fits : (r z : ℤ) → r ≡ z → IsWithin (pos 32767) z → SFits w16 (read r)
-cast64_fits r z e w =
-    let one : read r ≡ r = omega (arith, ints) in
-    rw (one, e) (fits16 z w)
-
-pub cast64_is : (r z : ℤ) → r ≡ z → IsWithin (pos 32767) z → read16 (read r) ≡ z
-cast64_is r z e w =
-    let one : read r ≡ r = omega (arith, ints) in
-    rw (one, e) (same16 z w)
+pub cast : (y z : ℤ) → y ≡ z → IsWithin (pos 32767) z → IsCast y z
+cast y z e w =
+    let same : read16 y ≡ z = ap read16 e ∙ same16 z w in
+    record { fits = subst (SFits w16) (sym e) (fits16 z w); is = same; within = subst (IsWithin (pos 32767)) (sym same) w }
 
 -- ---- sums and products of 64 bits
 

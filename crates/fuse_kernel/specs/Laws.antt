@@ -8,7 +8,7 @@ use Rattle.camera.specs.Cameras.{is_active}
 use Rattle.camera.specs.Grid.{point_of}
 use Rattle.camera.specs.Visibility.{may_be_seen}
 use Rattle.depth_view.specs.Views.{View, IsView}
-use Rattle.fuse_kernel.specs.Updates.{Meets, averaged, update, updated}
+use Rattle.fuse_kernel.specs.Updates.{HasWeightsWithin, Meets, averaged, update, updated}
 
 -- a voxel that a frame meets is averaged
 abbrev pub MetIsAveraged : Type 0
@@ -18,18 +18,22 @@ MetIsAveraged = (w : View) (n : ℕ) (p : Vec3) (x : Voxel) → (m : Meets w p) 
 abbrev pub UnmetStays : Type 0
 UnmetStays = (w : View) (n : ℕ) (p : Vec3) (x : Voxel) → ¬ Meets w p → update w n p x ≡ x
 
--- a frame meets no voxel of a block that may not be seen
-abbrev pub UnseenIsNotMet : Type 0
-UnseenIsNotMet = (w : View) (b : BlockKey) (i : ℕ) → IsView w → i < 512 → may_be_seen w.camera w.pose b ≡ false → ¬ Meets w (point_of w.camera.voxel b i)
+-- a frame meets no voxel of a block that is not visible
+abbrev pub InvisibleIsNotMet : Type 0
+InvisibleIsNotMet = (w : View) (b : BlockKey) (i : ℕ) → IsView w → i < 512 → may_be_seen w.camera w.pose b ≡ false → ¬ Meets w (point_of w.camera.voxel b i)
 
 -- a block is active if the frame meets a voxel of it
 abbrev pub MetIsActive : Type 0
 MetIsActive = (w : View) (b : BlockKey) (i : ℕ) → IsView w → i < 512 → Meets w (point_of w.camera.voxel b i) → IsTrue (is_active w.camera w.pose b)
 
--- so the update leaves a block as it is that may not be seen
-abbrev pub UnseenStays : Type 0
-UnseenStays = (w : View) (n : ℕ) (b : BlockKey) (voxels : List Voxel) → IsView w → length voxels ≡ 512 → may_be_seen w.camera w.pose b ≡ false → updated w n b voxels ≡ voxels
+-- so the update leaves a block that is not visible as it is
+abbrev pub InvisibleStays : Type 0
+InvisibleStays = (w : View) (n : ℕ) (b : BlockKey) (voxels : List Voxel) → IsView w → length voxels ≡ 512 → may_be_seen w.camera w.pose b ≡ false → updated w n b voxels ≡ voxels
 
 -- and one that is not active
 abbrev pub InactiveStays : Type 0
 InactiveStays = (w : View) (n : ℕ) (b : BlockKey) (voxels : List Voxel) → IsView w → length voxels ≡ 512 → is_active w.camera w.pose b ≡ false → updated w n b voxels ≡ voxels
+
+-- where no voxel of a block weighs more than the greatest weight, none does after an update
+abbrev pub WeightsStayBounded : Type 0
+WeightsStayBounded = (w : View) (n : ℕ) (b : BlockKey) (voxels : List Voxel) → HasWeightsWithin n voxels → HasWeightsWithin n (updated w n b voxels)

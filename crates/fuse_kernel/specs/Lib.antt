@@ -1,3 +1,3 @@
 pub mod Laws
 pub mod Updates
-pub mod Walks
+pub mod VoxelSteps

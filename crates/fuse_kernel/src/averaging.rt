@@ -1,42 +1,16 @@
-ghost use Rattle.std.specs.Prelude.{◌≡◌, ◌^◌, ◌≤◌, pos, neg_ℤ, ◌+ℤ◌, ◌-ℤ◌, ◌*ℤ◌, ◌≤ℤ◌, ◌<ℤ◌, ◌+◌, min, Some, int_le};
+//! A voxel by its signed distance, which is a running average (Curless and Levoy 1996).
+ghost use Rattle.std.specs.Prelude.{◌≡◌, ◌^◌, ◌≤◌, pos, neg_ℤ, ◌+ℤ◌, ◌-ℤ◌, ◌*ℤ◌, ◌≤ℤ◌, ◌<ℤ◌, ◌+◌, min};
 ghost use Rattle.fixed_geom.specs.Vectors.{IsWithin};
 ghost use Rattle.voxel_block.specs.Voxels.{IsVoxel};
-ghost use Rattle.fuse_kernel.specs.Updates.{averaged as averaged_of, mean as mean_of, measured as measured_of, seen as seen_of};
+ghost use Rattle.fuse_kernel.specs.Updates.{averaged as averaged_of, mean as mean_of, tsdf as tsdf_of};
 
 use voxel_block::Voxel;
 
 /// The greatest distance of a voxel, which stands for the truncation distance and beyond.
 const FAR: i16 = 32767;
 
-/// A voxel at the depth `z` of a pixel that shows `depth`. `mu` is the truncation distance, in micrometres as both
-/// depths are.
-pub(crate) fn seen(mu: i64, max_weight: u8, z: i64, voxel: Voxel, depth: i64) -> Voxel
-    requires mu { IsWithin (pos 1000000) mu }
-    requires positive { pos 1 ≤ℤ mu }
-    requires weight { 1 ≤ max_weight }
-    requires z { IsWithin (pos (2 ^ 42)) z }
-    requires voxel { IsVoxel voxel }
-    requires depth { IsWithin (pos 16000000) depth }
-    ensures value { result ≡ seen_of mu max_weight z voxel (Some depth) }
-    ensures voxel { IsVoxel result }
-{
-    let eta = depth - z;
-    if is_seen(mu, eta) {
-        averaged(mu, max_weight, eta, voxel)
-    } else {
-        voxel
-    }
-}
-
-/// Whether a point `eta` in front of what its pixel shows lies not more than `mu` behind it.
-pub(crate) fn is_seen(mu: i64, eta: i64) -> bool
-    requires { IsWithin (pos 1000000) mu }
-    ensures { result ≡ int_le (neg_ℤ mu) eta }
-{
-    -mu <= eta
-}
-
-/// A voxel `eta` in front of what its pixel shows, and not more than the truncation distance behind it.
+/// A voxel with the signed distance `eta`, which is at least the negative truncation distance `mu`. Both are in
+/// micrometres.
 pub(crate) fn averaged(mu: i64, max_weight: u8, eta: i64, voxel: Voxel) -> Voxel
     requires mu { IsWithin (pos 1000000) mu }
     requires positive { pos 1 ≤ℤ mu }
@@ -48,53 +22,53 @@ pub(crate) fn averaged(mu: i64, max_weight: u8, eta: i64, voxel: Voxel) -> Voxel
     ensures voxel { IsVoxel result }
 {
     Voxel {
-        f: mean(voxel.w, voxel.f, measured(mu, eta)),
+        f: mean(voxel.w, voxel.f, tsdf(mu, eta)),
         w: next_weight(voxel.w, max_weight),
     }
 }
 
-/// One more than a weight, held at the greatest one.
+/// One more than a weight, which saturates at the greatest one.
 fn next_weight(w: u8, max_weight: u8) -> u8
     ensures { result ≡ min (w + 1) max_weight }
 {
     if w < max_weight { w + 1 } else { max_weight }
 }
 
-/// The distance that is measured at a point `eta` in front of what its pixel shows.
-fn measured(mu: i64, eta: i64) -> i16
+/// The truncated distance of a signed distance, scaled to 16 bits.
+fn tsdf(mu: i64, eta: i64) -> i16
     requires mu { IsWithin (pos 1000000) mu }
     requires positive { pos 1 ≤ℤ mu }
     requires eta { (neg_ℤ mu) ≤ℤ eta }
-    ensures value { result ≡ measured_of mu eta }
+    ensures value { result ≡ tsdf_of mu eta }
     ensures bound { IsWithin (pos 32767) result }
 {
     if mu <= eta {
         FAR
     } else if mu <= 65536 {
-        measured_in_32_bits(mu as i32, eta as i32)
+        tsdf_in_32_bits(mu as i32, eta as i32)
     } else {
-        measured_in_64_bits(mu, eta)
+        tsdf_in_64_bits(mu, eta)
     }
 }
 
-/// What is measured at a point that is not as far in front as `mu`. A division in 32 bits is far quicker than one in 64.
-fn measured_in_32_bits(mu: i32, eta: i32) -> i16
+/// The truncated distance where it is below the greatest one. A division in 32 bits is far quicker than one in 64.
+fn tsdf_in_32_bits(mu: i32, eta: i32) -> i16
     requires mu { mu ≤ℤ pos 65536 }
     requires positive { pos 1 ≤ℤ mu }
     requires low { (neg_ℤ mu) ≤ℤ eta }
     requires high { eta <ℤ mu }
-    ensures value { result ≡ measured_of mu eta }
+    ensures value { result ≡ tsdf_of mu eta }
     ensures bound { IsWithin (pos 32767) result }
 {
     (i32::from(FAR) * eta).div_euclid(mu) as i16
 }
 
-fn measured_in_64_bits(mu: i64, eta: i64) -> i16
+fn tsdf_in_64_bits(mu: i64, eta: i64) -> i16
     requires mu { mu ≤ℤ pos 1000000 }
     requires positive { pos 1 ≤ℤ mu }
     requires low { (neg_ℤ mu) ≤ℤ eta }
     requires high { eta <ℤ mu }
-    ensures value { result ≡ measured_of mu eta }
+    ensures value { result ≡ tsdf_of mu eta }
     ensures bound { IsWithin (pos 32767) result }
 {
     (i64::from(FAR) * eta).div_euclid(mu) as i16

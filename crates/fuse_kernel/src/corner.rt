@@ -1,37 +1,35 @@
-//! The forms of a block's corner, which is its first voxel. A block's key may be far, so they take 128 bits; those of a
-//! block that may be seen fit 64.
+//! The scaled camera coordinates of a block's first voxel. They take 128 bits where the block may lie anywhere, and fit 64
+//! where it is visible.
 ghost use Rattle.std.specs.Prelude.{◌≡◌, ◌^◌, pos, IsTrue};
-ghost use Rattle.fixed_geom.specs.Vectors.{IsWithin};
 ghost use Rattle.camera.specs.Grid.{point_of};
 ghost use Rattle.camera.specs.Visibility.{may_be_seen};
-ghost use Rattle.fuse_kernel.specs.Walks.{NearCamQ30Within, cam_q30_of};
+ghost use Rattle.fuse_kernel.specs.VoxelSteps.{NearCamQ30Within, cam_q30_of, near_of};
 
 use crate::near_cam_q30::NearCamQ30;
 use camera::Camera;
-use fixed_geom::Pose;
+use fixed_geom::{CamQ30, Pose};
 use voxel_block::BlockKey;
 
-/// The forms of the first voxel of a block that may be seen.
+/// The scaled camera coordinates of the first voxel of a visible block.
 pub fn corner(camera: &Camera, pose: &Pose, key: BlockKey) -> NearCamQ30
     requires { IsTrue (may_be_seen camera.now pose.now key) }
     ensures value { result ≡ cam_q30_of pose.now (point_of camera.now.voxel key 0) }
     ensures bound { NearCamQ30Within (pos (2 ^ 55)) result }
 {
-    // What a camera has passed bounds the forms.
+    // A camera's fields are in their ranges, which bounds the coordinates.
     let _camera = camera.fields();
-    let far = pose.cam_q30(camera.voxel_point(key, 0));
-    NearCamQ30 {
-        x: narrow(far.x),
-        y: narrow(far.y),
-        z: narrow(far.z),
-    }
+    narrow(pose.cam_q30(camera.voxel_point(key, 0)))
 }
 
-/// The form in 64 bits.
-fn narrow(cam_q30_axis: i128) -> i64
-    requires { IsWithin (pos (2 ^ 55)) cam_q30_axis }
-    ensures value { result ≡ cam_q30_axis }
-    ensures bound { IsWithin (pos (2 ^ 55)) result }
+/// The same coordinates in 64 bits.
+fn narrow(far: CamQ30) -> NearCamQ30
+    requires { NearCamQ30Within (pos (2 ^ 55)) (near_of far) }
+    ensures value { result ≡ near_of far }
+    ensures bound { NearCamQ30Within (pos (2 ^ 55)) result }
 {
-    cam_q30_axis as i64
+    NearCamQ30 {
+        x: far.x as i64,
+        y: far.y as i64,
+        z: far.z as i64,
+    }
 }

@@ -3,12 +3,10 @@
 
 mod averaging;
 mod corner;
-mod near_cam_q30;
 pub mod laws;
-pub mod plain;
-mod projection;
+mod near_cam_q30;
 mod update;
-mod walk;
+mod voxel_steps;
 
 pub use update::update_block;
 

@@ -1,7 +1,6 @@
 ghost use Rattle.std.specs.Prelude.{◌≡◌, ◌≤◌, IfSome, vec_len};
 ghost use Rattle.depth_view.specs.Views.{FitsImage};
 
-use crate::plain::update_block_plainly;
 use crate::update_block;
 use camera::{Camera, CameraFields};
 use depth_frame::DepthFrame;
@@ -9,32 +8,17 @@ use fixed_geom::{Pose, PoseRows, Vec3};
 use std::alloc::Global;
 use voxel_block::{Block, BlockKey, Voxel};
 
-const ONE: i64 = 1073741824;
+const ONE: i64 = 1 << 30;
 
 const UPRIGHT: [i64; 9] = [ONE, 0, 0, 0, ONE, 0, 0, 0, ONE];
-// A camera that looks along the axis x, and one that is turned by a right triangle's angle on the axis z.
-const ASIDE: [i64; 9] = [0, 0, ONE, 0, ONE, 0, -ONE, 0, 0];
 
+// A camera that looks along the axis x.
+const SIDEWAYS: [i64; 9] = [0, 0, ONE, 0, ONE, 0, -ONE, 0, 0];
+
+// One that is turned round the axis z by the angle of the triangle with the sides 3, 4 and 5.
 const TILTED: [i64; 9] = [644245094, -858993459, 0, 858993459, 644245094, 0, 0, 0, ONE];
 
-// One pixel that looks along the axis, with voxels of 1 cm and a truncation distance of 4 cm.
-const NARROW: CameraFields = CameraFields {
-    width: 1,
-    height: 1,
-    fx: 65536,
-    fy: 65536,
-    cx: 0,
-    cy: 0,
-    unit: 1000,
-    near: 500000,
-    far: 2000000,
-    voxel: 10000,
-    mu: 40000,
-    radius: 2100000,
-    centre: 1020000,
-};
-
-// 16 by 12 pixels, and the same voxels.
+// 16 by 12 pixels, voxels of 1 cm and a truncation distance of 4 cm.
 const WIDE: CameraFields = CameraFields {
     width: 16,
     height: 12,
@@ -51,6 +35,20 @@ const WIDE: CameraFields = CameraFields {
     centre: 1000000,
 };
 
+// One pixel that looks along the axis, and the same voxels.
+const NARROW: CameraFields = CameraFields {
+    width: 1,
+    height: 1,
+    fx: 65536,
+    fy: 65536,
+    cx: 0,
+    cy: 0,
+    near: 500000,
+    radius: 2100000,
+    centre: 1020000,
+    ..WIDE
+};
+
 fn pose(r: [i64; 9], t: Vec3) -> Option<Pose> {
     Pose::accept(&PoseRows { r, t }).ok()
 }
@@ -63,7 +61,7 @@ fn narrow(alloc: Global, sample: u16) -> Option<(Camera, DepthFrame)>
     Some((camera, DepthFrame::make(1, 1, raw)))
 }
 
-// A rough wall `depth` millimetres away, with pixels that show nothing.
+// A rough wall `depth` millimetres away, with pixels that show no depth.
 fn wide(alloc: Global, depth: u16) -> Option<(Camera, DepthFrame)>
     requires { depth ≤ 2000 }
     ensures { IfSome result (λ p. FitsImage p.0 p.1) }
@@ -80,7 +78,7 @@ fn wide(alloc: Global, depth: u16) -> Option<(Camera, DepthFrame)>
     Some((camera, DepthFrame::make(16, 12, raw)))
 }
 
-// The voxels with the coordinates (0, 0, 96) to (0, 0, 105) behind frames of these samples.
+// The voxels with the coordinates (0, 0, 96) to (0, 0, 105) after frames of these samples.
 fn column(alloc: Global, max_weight: u8, samples: &[u16]) -> Option<[Voxel; 10]> {
     if max_weight == 0 {
         return None;
@@ -113,9 +111,10 @@ fn column(alloc: Global, max_weight: u8, samples: &[u16]) -> Option<[Voxel; 10]>
 
 // Expected by the rule of the update: distances at z 96 to 105, and the weights of the first and of the last two.
 #[test]
-fn a_wall_is_told_by_signed_distances(rt: HostRuntime) {
-    let rows: [(u8, &[u16], [i16; 10], [u8; 3]); 4] = [
+fn a_wall_by_signed_distances(rt: HostRuntime) {
+    let rows: [(&str, u8, &[u16], [i16; 10], [u8; 3]); 4] = [
         (
+            "one frame",
             255,
             &[1000],
             [
@@ -124,6 +123,7 @@ fn a_wall_is_told_by_signed_distances(rt: HostRuntime) {
             [1, 1, 0],
         ),
         (
+            "two frames",
             255,
             &[1000, 1010],
             [
@@ -132,6 +132,7 @@ fn a_wall_is_told_by_signed_distances(rt: HostRuntime) {
             [2, 2, 1],
         ),
         (
+            "the greatest weight is 1",
             1,
             &[1000, 1010, 1010],
             [
@@ -139,79 +140,135 @@ fn a_wall_is_told_by_signed_distances(rt: HostRuntime) {
             ],
             [1, 1, 1],
         ),
-        (255, &[0, 65535], [32767; 10], [0; 3]),
+        ("no valid depth", 255, &[0, 65535], [32767; 10], [0; 3]),
     ];
-    for (max_weight, samples, distances, weights) in rows {
+    for (name, max_weight, samples, distances, weights) in rows {
         let voxels = column(rt.alloc(), max_weight, samples);
-        assert!(rt; voxels.is_some());
+        assert!(rt; voxels.is_some(), "{}", name);
         if let Some(voxels) = voxels {
-            assert_eq!(rt; voxels.map(|v| v.f), distances);
-            assert_eq!(rt; [voxels[0].w, voxels[8].w, voxels[9].w], weights);
+            assert_eq!(rt; voxels.map(|v| v.f), distances, "{}", name);
+            assert_eq!(rt;
+                [voxels[0].w, voxels[8].w, voxels[9].w],
+                weights,
+                "{}",
+                name
+            );
         }
     }
 }
 
-// How many voxels of a block are not new.
-fn count_seen(block: &Block) -> u32 {
-    let mut count = 0_u32;
+// How many voxels of a block are known, and the sums over all voxels of (i + 1) times the distance and of (i + 1) times the
+// weight.
+fn sums(block: &Block) -> (u32, i64, i64) {
+    let mut known = 0_u32;
+    let (mut distance, mut weight) = (0_i64, 0_i64);
     for i in 0..512 {
-        if block.get(i).w != 0 {
-            count = count.saturating_add(1);
+        let Voxel { f, w } = block.get(i);
+        if w > 0 {
+            known = known.wrapping_add(1);
         }
+        distance = distance.wrapping_add(i64::from(i + 1).wrapping_mul(i64::from(f)));
+        weight = weight.wrapping_add(i64::from(i + 1).wrapping_mul(i64::from(w)));
     }
-    count
+    (known, distance, weight)
 }
 
-fn are_alike(a: &Block, b: &Block) -> bool {
-    for i in 0..512 {
-        if a.get(i) != b.get(i) {
-            return false;
-        }
-    }
-    true
-}
-
-// How many voxels two frames meet, by both bodies. `None` where the bodies differ.
-fn seen_by_both(alloc: Global, r: [i64; 9], t: Vec3, key: BlockKey) -> Option<u32> {
+// The sums of a block after three frames of a rough wall.
+fn after_walls(alloc: Global, r: [i64; 9], t: Vec3, key: BlockKey) -> Option<(u32, i64, i64)> {
     let pose = pose(r, t)?;
-    let mut quick = Block::make(alloc).ok()?;
-    let mut plain = Block::make(alloc).ok()?;
+    let mut block = Block::make(alloc).ok()?;
     for (depth, max_weight) in [(1000_u16, 255_u8), (950, 255), (990, 2)] {
         let (camera, frame) = wide(alloc, depth)?;
-        update_block(&mut quick, key, &camera, &pose, &frame, max_weight);
-        update_block_plainly(&mut plain, key, &camera, &pose, &frame, max_weight);
-        if !are_alike(&quick, &plain) {
-            return None;
-        }
+        update_block(&mut block, key, &camera, &pose, &frame, max_weight);
     }
-    Some(count_seen(&quick))
+    Some(sums(&block))
 }
 
-// Expected by the rule: a block before the wall is met at some voxels, and one out of the image at none.
+// Expected by an evaluator that shares nothing with this crate, `block_sums` of examples/expected.py.
 #[test]
-fn both_bodies_make_the_same_voxels(rt: HostRuntime) {
+fn whole_blocks(rt: HostRuntime) {
     let home = Vec3 { x: 0, y: 0, z: 0 };
     let away = Vec3 {
         x: 12345,
         y: -6789,
         z: 101,
     };
+    let unmet = (0, 4303224576, 0);
     let rows = [
-        (UPRIGHT, home, (0, 0, 12), true),
-        (UPRIGHT, home, (-1, -1, 0), true),
-        (UPRIGHT, home, (6, 0, 12), true),
-        (UPRIGHT, home, (0, -5, 11), true),
-        (UPRIGHT, home, (0, 0, -5), false),
-        (UPRIGHT, home, (9, 0, 12), false),
-        (UPRIGHT, home, (32767, -32768, 5), false),
-        (ASIDE, away, (12, 0, 0), true),
-        (ASIDE, away, (0, 0, 12), false),
-        (TILTED, away, (2, -3, 12), true),
-        (TILTED, away, (-32768, 32767, -32768), false),
+        (
+            "in front of the wall",
+            UPRIGHT,
+            home,
+            (0, 0, 12),
+            (385, 1341390086, 200748),
+        ),
+        (
+            "at the camera",
+            UPRIGHT,
+            home,
+            (-1, -1, 0),
+            (17, 4303224576, 14322),
+        ),
+        (
+            "at the right edge of the image",
+            UPRIGHT,
+            home,
+            (6, 0, 12),
+            (8, 4139372008, 7632),
+        ),
+        (
+            "at the upper edge of the image",
+            UPRIGHT,
+            home,
+            (0, -5, 11),
+            (296, 4303224576, 177256),
+        ),
+        ("behind the camera", UPRIGHT, home, (0, 0, -5), unmet),
+        (
+            "to the right of the image",
+            UPRIGHT,
+            home,
+            (9, 0, 12),
+            unmet,
+        ),
+        (
+            "at the ends of the keys",
+            UPRIGHT,
+            home,
+            (32767, -32768, 5),
+            unmet,
+        ),
+        (
+            "along x",
+            SIDEWAYS,
+            away,
+            (12, 0, 0),
+            (347, 3420779882, 133446),
+        ),
+        (
+            "beside the image, along x",
+            SIDEWAYS,
+            away,
+            (0, 0, 12),
+            unmet,
+        ),
+        (
+            "tilted",
+            TILTED,
+            away,
+            (2, -3, 12),
+            (512, 2054442300, 262656),
+        ),
+        (
+            "at the ends of the keys, tilted",
+            TILTED,
+            away,
+            (-32768, 32767, -32768),
+            unmet,
+        ),
     ];
-    for (r, t, (x, y, z), is_met) in rows {
-        let count = seen_by_both(rt.alloc(), r, t, BlockKey { x, y, z });
-        assert!(rt; count.is_some());
-        assert_eq!(rt; count != Some(0), is_met);
+    for (name, r, t, (x, y, z), expected) in rows {
+        let found = after_walls(rt.alloc(), r, t, BlockKey { x, y, z });
+        assert_eq!(rt; found, Some(expected), "{}", name);
     }
 }

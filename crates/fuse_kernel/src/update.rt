@@ -1,17 +1,15 @@
-ghost use Rattle.std.specs.Prelude.{◌≡◌, ◌^◌, ◌≤◌, ◌<◌, ◌+◌, ◌*◌, pos, neg_ℤ, ◌≤ℤ◌, ◌<ℤ◌, IfSome, List};
+ghost use Rattle.std.specs.Prelude.{◌≡◌, ◌^◌, ◌≤◌, ◌<◌, ◌+◌, ◌*◌, pos, neg_ℤ, ◌≤ℤ◌, int_le, IfSome, List, length};
 ghost use Rattle.fixed_geom.specs.Poses.{Pose, cam};
 ghost use Rattle.fixed_geom.specs.Vectors.{AreWithin, IsWithin};
 ghost use Rattle.voxel_block.specs.declared.key.BlockKey.{BlockKey};
 ghost use Rattle.voxel_block.specs.declared.voxel.Voxel.{Voxel};
-ghost use Rattle.camera.specs.Cameras.{project as pixel_of};
 ghost use Rattle.camera.specs.Grid.{point_of};
 ghost use Rattle.depth_view.specs.Views.{FitsImage, view_of};
-ghost use Rattle.fuse_kernel.specs.Updates.{depth_behind as depth_behind_of, updated};
-ghost use Rattle.fuse_kernel.specs.Walks.{IsShort, eta_of, lead as lead_of, updated_to, walk_of};
+ghost use Rattle.fuse_kernel.specs.Updates.{shown_depth as shown_depth_of, signed_distance as signed_distance_by, signed_distance_of, updated};
+ghost use Rattle.fuse_kernel.specs.VoxelSteps.{HasStepBounds, updated_to, voxel_steps_of};
 
-use crate::averaging::{averaged, is_seen};
-use crate::projection::project;
-use crate::walk::Walk;
+use crate::averaging::averaged;
+use crate::voxel_steps::VoxelSteps;
 use camera::Camera;
 use depth_frame::DepthFrame;
 use depth_view::depth_at;
@@ -32,24 +30,30 @@ pub fn update_block(
     requires weight { 1 ≤ max_weight }
     ensures { block.new ≡ updated (view_of camera.now pose.now frame.now) max_weight key block.old }
 {
+    block.has_all_voxels();
     if !camera.may_see(pose, key) {
-        block.has_all_voxels();
         return;
     }
-    let walk = Walk::make(camera, pose, key);
-    update_rows(block, &walk, camera, frame, max_weight);
+    let steps = VoxelSteps::make(camera, pose, key);
+    update_rows(block, &steps, camera, frame, max_weight);
 }
 
-/// Updates the voxels of a block by a walk over it.
-fn update_rows(block: &mut Block, walk: &Walk, camera: &Camera, frame: &DepthFrame, max_weight: u8)
+/// Updates the voxels of a block, row by row.
+fn update_rows(
+    block: &mut Block,
+    steps: &VoxelSteps,
+    camera: &Camera,
+    frame: &DepthFrame,
+    max_weight: u8,
+)
     requires fits { FitsImage camera.now frame.now }
     requires weight { 1 ≤ max_weight }
-    requires walk { IsShort walk.now }
-    ensures { (m : Pose) (b : BlockKey) → walk.now ≡ walk_of camera.now.voxel m b → block.new ≡ updated (view_of camera.now m frame.now) max_weight b block.old }
+    requires steps { HasStepBounds steps.now }
+    requires count { length block.old ≡ 512 }
+    ensures { (m : Pose) (b : BlockKey) → steps.now ≡ voxel_steps_of camera.now.voxel m b → block.new ≡ updated (view_of camera.now m frame.now) max_weight b block.old }
 {
-    block.has_all_voxels();
     for row in 0..64 {
-        update_row(block, row, walk, camera, frame, max_weight);
+        update_row(block, row, steps, camera, frame, max_weight);
     }
 }
 
@@ -57,23 +61,30 @@ fn update_rows(block: &mut Block, walk: &Walk, camera: &Camera, frame: &DepthFra
 fn update_row(
     block: &mut Block,
     row: u16,
-    walk: &Walk,
+    steps: &VoxelSteps,
     camera: &Camera,
     frame: &DepthFrame,
     max_weight: u8,
 )
     requires fits { FitsImage camera.now frame.now }
     requires weight { 1 ≤ max_weight }
-    requires walk { IsShort walk.now }
+    requires steps { HasStepBounds steps.now }
     requires row { row < 64 }
-    ensures { (m : Pose) (b : BlockKey) (voxels : List Voxel) → walk.now ≡ walk_of camera.now.voxel m b
+    ensures { (m : Pose) (b : BlockKey) (voxels : List Voxel) → steps.now ≡ voxel_steps_of camera.now.voxel m b
         → block.old ≡ updated_to (view_of camera.now m frame.now) max_weight b (8 * row) voxels
         → block.new ≡ updated_to (view_of camera.now m frame.now) max_weight b (8 * (row + 1)) voxels }
 {
-    let mut near_cam_q30 = walk.row(row);
+    let mut near_cam_q30 = steps.row(row);
     for x in 0..8 {
-        update_voxel(block, 8 * row + x, near_cam_q30.point(), camera, frame, max_weight);
-        near_cam_q30 = near_cam_q30.plus(walk.x);
+        update_voxel(
+            block,
+            8 * row + x,
+            near_cam_q30.point(),
+            camera,
+            frame,
+            max_weight,
+        );
+        near_cam_q30 = near_cam_q30.plus(steps.x);
     }
 }
 
@@ -94,56 +105,56 @@ fn update_voxel(
         → block.old ≡ updated_to (view_of camera.now m frame.now) max_weight b i voxels
         → block.new ≡ updated_to (view_of camera.now m frame.now) max_weight b (i + 1) voxels }
 {
-    match eta_at(camera, frame, point) {
-        Some(eta) => {
-            let voxel = averaged(camera.fields().mu, max_weight, eta, block.get(i));
-            block.set(i, voxel);
-        }
-        None => block.has_all_voxels(),
+    if let Some(eta) = signed_distance_at(camera, frame, point) {
+        let voxel = averaged(camera.fields().mu, max_weight, eta, block.get(i));
+        block.set(i, voxel);
     }
 }
 
 /// How far a camera point lies in front of what its pixel shows. `None` where the frame does not meet it.
-fn eta_at(camera: &Camera, frame: &DepthFrame, point: Vec3) -> Option<i64>
+fn signed_distance_at(camera: &Camera, frame: &DepthFrame, point: Vec3) -> Option<i64>
     requires fits { FitsImage camera.now frame.now }
     requires point { AreWithin (pos (2 ^ 26)) point }
-    ensures value { (m : Pose) → result ≡ eta_of (view_of camera.now m frame.now) point }
+    ensures value { (m : Pose) → result ≡ signed_distance_of (view_of camera.now m frame.now) point }
     ensures bound { IfSome result (λ eta. IsWithin (pos (2 ^ 43)) eta) }
     ensures front { IfSome result (λ eta. (neg_ℤ camera.now.mu) ≤ℤ eta) }
 {
-    let depth = depth_behind(camera, frame, point)?;
-    lead(camera.fields().mu, point.z, depth)
+    let depth = shown_depth(camera, frame, point)?;
+    signed_distance(camera.fields().mu, point.z, depth)
 }
 
-/// The depth in the pixel that a camera point projects to.
-fn depth_behind(camera: &Camera, frame: &DepthFrame, point: Vec3) -> Option<i64>
+/// The depth that the pixel of a camera point shows.
+fn shown_depth(camera: &Camera, frame: &DepthFrame, point: Vec3) -> Option<i64>
     requires fits { FitsImage camera.now frame.now }
     requires point { AreWithin (pos (2 ^ 26)) point }
-    ensures value { (m : Pose) → result ≡ depth_behind_of (view_of camera.now m frame.now) point }
+    ensures value { (m : Pose) → result ≡ shown_depth_of (view_of camera.now m frame.now) point }
     ensures range { IfSome result (λ d. (pos 1 ≤ℤ d) × (d ≤ℤ camera.now.far)) }
 {
-    let (u, v) = pixel(camera, point)?;
+    let (u, v) = camera.project_near(point)?;
     depth_at(camera, frame, u, v)
 }
 
-/// The pixel (column, row) that a camera point projects to.
-fn pixel(camera: &Camera, point: Vec3) -> Option<(u32, u32)>
-    requires { AreWithin (pos (2 ^ 26)) point }
-    ensures value { result ≡ pixel_of camera.now point }
-    ensures inside { IfSome result (λ p. ((pos p.0) <ℤ camera.now.width) × ((pos p.1) <ℤ camera.now.height)) }
-{
-    project(&camera.fields(), point)
-}
-
 /// How far the depth `z` lies in front of `depth`. `None` where it lies more than `mu` behind it.
-fn lead(mu: i64, z: i64, depth: i64) -> Option<i64>
+fn signed_distance(mu: i64, z: i64, depth: i64) -> Option<i64>
     requires mu { IsWithin (pos 1000000) mu }
     requires z { IsWithin (pos (2 ^ 26)) z }
     requires depth { IsWithin (pos 16000000) depth }
-    ensures value { result ≡ lead_of mu z depth }
+    ensures value { result ≡ signed_distance_by mu z depth }
     ensures bound { IfSome result (λ eta. IsWithin (pos (2 ^ 43)) eta) }
     ensures front { IfSome result (λ eta. (neg_ℤ mu) ≤ℤ eta) }
 {
     let eta = depth - z;
-    if is_seen(mu, eta) { Some(eta) } else { None }
+    if is_within_band(mu, eta) {
+        Some(eta)
+    } else {
+        None
+    }
+}
+
+/// Whether a point with this signed distance lies at most `mu` behind what its pixel shows.
+fn is_within_band(mu: i64, eta: i64) -> bool
+    requires { IsWithin (pos 1000000) mu }
+    ensures { result ≡ int_le (neg_ℤ mu) eta }
+{
+    -mu <= eta
 }

@@ -20,7 +20,8 @@ use Rattle.scan_lang.specs.Entries.{is_end}
 use Rattle.scan_lang.specs.Offsets.{short}
 use Rattle.scan_lang.specs.Scan.{Begun, Read, Records, Scan, begin_of, entry_at, records_of, records_from, records_with, scan_of, refused, complete, with_entry, lines_after_config}
 use Rattle.scan_lang.proofs.RecordLemmas.{further, records_step}
-use Rattle.session.specs.Fold.{State, start, after}
+use Rattle.fusion_core.specs.Fold.{State, start}
+use Rattle.session.specs.Fold.{after}
 use Rattle.session.specs.Output.{reply_text, replies_from, Output, output_of, output_from, output_in, all_bytes, first_bytes}
 use Rattle.fusion_cli.specs.Run.{Answers, CountsReads, CountsWrites, GivesEnd, IsRisen, IsRun, Told, ended, stop_of}
 

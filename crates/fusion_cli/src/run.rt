@@ -3,7 +3,7 @@ ghost use Rattle.std.specs.Io.KnownBytes.{Appends};
 ghost use Rattle.scan_io.specs.Causes.{Rose, HasCause};
 ghost use Rattle.scan_io.specs.Coming.{Grows, LosesFront};
 ghost use Rattle.session.specs.Answers.{state_of};
-ghost use Rattle.session.specs.Fold.{after, reply_to};
+ghost use Rattle.session.specs.Fold.{after, refusal_reply, reply_to};
 ghost use Rattle.scan_lang.specs.declared.entry.Entry.TheVariants as entries;
 ghost use Rattle.fusion_cli.specs.Run.{is_fuse as is_fuse_command, Answers, CountsReads, CountsWrites, IsRun, IsWhole, ended, stop_of, told};
 ghost use Rattle.fusion_cli.specs.declared.run.Stop.TheVariants.{NoMemory as no_memory};
@@ -11,9 +11,10 @@ ghost use Rattle.fusion_cli.specs.declared.run.Stop.TheVariants.{NoMemory as no_
 use crate::status::Status;
 use depth_frame::DepthFrame;
 use fixed_geom::{BadPose, PoseRows};
+use fusion_core::Refusal;
 use scan_io::{Sink, Source, put_all};
 use scan_lang::{BadScan, Entry, Reply, ScanError, ScanReader, VoxelList, reply_bytes};
-use session::{FrameError, ReadError, Session};
+use session::{ReadError, Session};
 use std::alloc::Global;
 use voxel_block::NoMemory;
 
@@ -166,11 +167,22 @@ fn fuse(
 {
     match session.frame(alloc, rows, depths) {
         Ok(done) => Ok(Reply::Frame(done)),
-        Err(FrameError::Size { .. }) => Ok(Reply::Size),
-        Err(FrameError::BadPose(BadPose::Range)) => Ok(Reply::PoseRange),
-        Err(FrameError::BadPose(BadPose::NotRotation)) => Ok(Reply::PoseRotation),
-        Err(FrameError::HeapSpent { limit }) => Ok(Reply::HeapSpent(limit)),
-        Err(FrameError::NoMemory) => Err(Stop::NoMemory),
+        Err(why) => match why.refusal() {
+            Some(refusal) => Ok(refused(refusal)),
+            None => Err(Stop::NoMemory),
+        },
+    }
+}
+
+/// The reply to a frame that is refused.
+fn refused(why: Refusal) -> Reply
+    ensures { result ≡ refusal_reply why }
+{
+    match why {
+        Refusal::Size { .. } => Reply::Size,
+        Refusal::BadPose(BadPose::Range) => Reply::PoseRange,
+        Refusal::BadPose(BadPose::NotRotation) => Reply::PoseRotation,
+        Refusal::HeapSpent { limit } => Reply::HeapSpent(limit),
     }
 }
 

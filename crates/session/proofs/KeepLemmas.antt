@@ -11,7 +11,7 @@ use Rattle.block_places.proofs.Blocks.{has-blocks}
 use Rattle.block_places.proofs.Keeping.{alike}
 use Rattle.block_places.proofs.Moves.{with_slots}
 use Rattle.session.specs.Rooms.{KeepsSlots}
-use Rattle.session.proofs.MapLemmas.{same_key, same_key_is}
+use Rattle.fusion_core.proofs.MapLemmas.{same_key, same_key_is}
 
 pub keeps_same : (m n : Places) → n ≡ m → KeepsSlots m n
 keeps_same m n e = record { table = ap (λ (p : Places). p.table) e; heap = ap (λ (p : Places). p.heap) e; slots = λ b h. ap (λ (p : Places). get p.slots b) e }

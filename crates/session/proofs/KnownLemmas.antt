@@ -7,10 +7,10 @@ use Rattle.voxel_block.specs.declared.voxel.Voxel.{Voxel}
 use Rattle.scan_lang.specs.declared.reply.KnownVoxel.{KnownVoxel}
 use Rattle.std.specs.FinMap.{get, keys, entries}
 use Rattle.session.specs.Fold.{known_at, known_in, known_voxels}
-use Rattle.session.specs.Maps.{BlockMap}
+use Rattle.fusion_core.specs.Maps.{BlockMap}
 use Rattle.session.specs.Sums.{known_in_option}
-use Rattle.session.proofs.KeyLemmas.{entries_by_keys, marked}
-use Rattle.session.proofs.MapLemmas.{pairs_of}
+use Rattle.fusion_core.proofs.KeyLemmas.{entries_by_keys, marked}
+use Rattle.fusion_core.proofs.MapLemmas.{pairs_of}
 
 drop_at : {X : Type 0} (xs : List X) (i : ℕ) (x : X) → slice_get xs i ≡ Some x → drop i xs ≡ x ∷ drop (suc i) xs
 drop_at [] i x is = absurd (cc)

@@ -1,13 +1,9 @@
-mod BandLemmas
-mod FuseLemmas
+mod CountLemmas
+mod FrameLemmas
 mod KeepLemmas
-mod KeyLemmas
 mod KnownLemmas
-mod MapLemmas
 mod MovingLemmas
 mod Powers
-mod SessionLemmas
 mod StandingLemmas
 mod SumLemmas
 mod UpdatingLemmas
-mod WholeLemmas

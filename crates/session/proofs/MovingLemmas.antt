@@ -12,12 +12,13 @@ use Rattle.spatial_hash.specs.Contents.{contents}
 use Rattle.block_places.specs.Places.{IsPlaced, Places, blocks_of}
 use Rattle.block_places.proofs.Blocks.{has-blocks}
 use Rattle.block_places.proofs.Keyed.{len_put}
-use Rattle.session.specs.declared.frame.Frame.{Frame}
-use Rattle.session.specs.Frames.{is_active}
-use Rattle.session.specs.Maps.{active_count}
+use Rattle.fusion_core.specs.Frames.{Frame}
+use Rattle.fusion_core.specs.Frames.{is_active}
+use Rattle.fusion_core.specs.Maps.{active_count}
 use Rattle.session.specs.Rooms.{Moves, leaves}
-use Rattle.session.proofs.KeyLemmas.{distinct_keys}
-use Rattle.session.proofs.MapLemmas.{same_key, same_key_is, count_by-cons, count_keys}
+use Rattle.fusion_core.proofs.KeyLemmas.{distinct_keys}
+use Rattle.fusion_core.proofs.MapLemmas.{same_key, same_key_is}
+use Rattle.session.proofs.CountLemmas.{count_by-cons, count_keys}
 
 -- ---- one key
 
@@ -62,10 +63,10 @@ not_true false e = refl
 -- ---- moves one after another
 
 pub moves_same : (p : Places) → IsPlaced p → Moves p p
-moves_same p placed = record { blocks = refl; cells = refl; placed = placed }
+moves_same p placed = record { blocks = refl; cells = refl; size = record { buckets = refl; nodes = refl }; placed = placed }
 
 pub moves_more : (p r s : Places) → Moves p r → Moves r s → Moves p s
-moves_more p r s a b = record { blocks = b.blocks ∙ a.blocks; cells = b.cells ∙ a.cells; placed = b.placed }
+moves_more p r s a b = record { blocks = b.blocks ∙ a.blocks; cells = b.cells ∙ a.cells; size = record { buckets = b.size.buckets ∙ a.size.buckets; nodes = b.size.nodes ∙ a.size.nodes }; placed = b.placed }
 
 -- a key of the heap is a key of the map
 pub away_is_known : (p : Places) (q : BlockKey) → IsPlaced p → IsTrue (contains_key (contents p.table) q) → contains_key (blocks_of p) q ≡ true

@@ -10,13 +10,13 @@ use Rattle.voxel_block.specs.Blocks.{new_block}
 use Rattle.voxel_block.proofs.KeyLaws.{exact_keys, keys_total}
 use Rattle.block_places.specs.Places.{IsPlaced, Places, blocks_of}
 use Rattle.fuse_kernel.specs.Updates.{updated}
-use Rattle.session.specs.declared.frame.Frame.{Frame}
 use Rattle.fuse_kernel.proofs.LawLemmas.{inactive_stays}
-use Rattle.session.specs.Frames.{IsFrame, is_active, view}
-use Rattle.session.specs.Maps.{BlockMap, HasWholeBlocks, voxels_at, all_updated}
+use Rattle.fusion_core.specs.Frames.{Frame, IsFrame, is_active, view}
+use Rattle.fusion_core.specs.Maps.{BlockMap, HasWholeBlocks, voxels_at, all_updated}
 use Rattle.session.specs.Rooms.{StaysInPlace}
-use Rattle.session.proofs.KeyLemmas.{distinct_keys, not_again, others_distinct}
-use Rattle.session.proofs.MapLemmas.{same_key, same_key_is, get-pairs_of, by_default}
+use Rattle.fusion_core.proofs.KeyLemmas.{distinct_keys, not_again, others_distinct}
+use Rattle.fusion_core.proofs.MapLemmas.{same_key, same_key_is}
+use Rattle.fusion_core.proofs.UpdatedLemmas.{get_updated}
 use Rattle.session.proofs.MovingLemmas.{is_first, is_later}
 
 pub stays_same : (p : Places) → IsPlaced p → StaysInPlace p p
@@ -111,20 +111,5 @@ updating_next f p r s k ks rest frame whole x is stays put =
       | false ↦ λ e now. updating_left f p r s k ks rest frame whole e x is stays now
     ] refl put
 
--- what the map with all blocks updated has at a key
-pub get_updated : (f : Frame) (m : BlockMap) (q : BlockKey) → get (all_updated f m) q ≡ option_map (updated (view f) f.max_weight q) (get m q)
-unfolding all_updated
-get_updated f m q =
-    get-pairs_of (λ b. updated (view f) f.max_weight b (voxels_at m b)) (keys m) q ∙ ap (λ b. cond b (Some (updated (view f) f.max_weight q (voxels_at m q))) None) (sym (contains_key-keys m q))
-    ∙ sym (by_default (updated (view f) f.max_weight q) new_block (get m q))
-
 pub updating_end : (f : Frame) (p r : Places) (ks : List BlockKey) → Updating f p r ks → ks ≡ [] → blocks_of r ≡ all_updated f (blocks_of p)
 updating_end f p r ks x is = same_map keys_total exact_keys _ _ (λ q. x.done q (ap (list_any (same_key q)) is) ∙ sym (get_updated f (blocks_of p) q))
-
-still_some : (f : Frame) (q : BlockKey) (o : Option (List Voxel)) → is_some (option_map (updated (view f) f.max_weight q) o) ≡ is_some o
-still_some f q None = refl
-still_some f q (Some v) = refl
-
--- it has the same keys
-pub has_updated : (f : Frame) (m : BlockMap) (q : BlockKey) → contains_key (all_updated f m) q ≡ contains_key m q
-has_updated f m q = ap is_some (get_updated f m q) ∙ still_some f q (get m q)

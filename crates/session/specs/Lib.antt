@@ -1,9 +1,7 @@
 pub mod Answers
 pub mod Codes
 pub mod Fold
-pub mod Frames
 pub mod Held
-pub mod Maps
 pub mod Output
 pub mod Rooms
 pub mod Standing

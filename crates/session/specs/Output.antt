@@ -6,7 +6,8 @@ use Rattle.scan_lang.specs.declared.error.BadScan.{BadScan}
 use Rattle.scan_lang.specs.declared.entry.Entry.{Entry}
 use Rattle.scan_lang.specs.Scan.{Scan, Records, Ending, refused, scan_of}
 use Rattle.scan_lang.specs.Replies.{text_of}
-use Rattle.session.specs.Fold.{State, start, after, reply_to}
+use Rattle.fusion_core.specs.Fold.{State, start}
+use Rattle.session.specs.Fold.{after, reply_to}
 
 -- the bytes of the reply to an entry at a state
 abbrev pub reply_text : Config → State → Entry → List ℕ

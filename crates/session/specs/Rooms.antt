@@ -6,11 +6,12 @@ use Rattle.std.specs.Ordering.{eq_by_cmp}
 use Rattle.voxel_block.specs.declared.key.BlockKey.{BlockKey}
 use Rattle.voxel_block.specs.Keys.{key_cmp}
 use Rattle.spatial_hash.specs.Contents.{contents}
+use Rattle.spatial_hash.specs.Table.{KeepsSize}
 use Rattle.block_places.specs.Places.{IsPlaced, Places, blocks_of}
-use Rattle.session.specs.declared.frame.Frame.{Frame}
+use Rattle.fusion_core.specs.Frames.{Frame}
 use Rattle.session.specs.declared.room.Plan.{Plan}
-use Rattle.session.specs.Frames.{is_active}
-use Rattle.session.specs.Maps.{active_count}
+use Rattle.fusion_core.specs.Frames.{is_active}
+use Rattle.fusion_core.specs.Maps.{active_count}
 
 -- the heap and its hash are as they were, and so is the slot of each key that was known
 pub record KeepsSlots (old new : Places) : Type 0 where
@@ -34,10 +35,11 @@ pub record IsPlan (f : Frame) (p : Places) (plan : Plan) : Type 0 where
   pub room : plan.resident ≤ length p.heap.cells
   pub placed : IsPlaced p
 
--- blocks moved between their slots and the heap: the map is the same, and the heap has as many cells
+-- blocks moved between their slots and the heap: the map is the same, and the heap and the hash have their sizes
 pub record Moves (old new : Places) : Type 0 where
   pub blocks : blocks_of new ≡ blocks_of old
   pub cells : length new.heap.cells ≡ length old.heap.cells
+  pub size : KeepsSize old.table new.table
   pub placed : IsPlaced new
 
 -- the hash is as it was, and the heap has as many cells

@@ -1,16 +1,19 @@
 -- Where the blocks of a session lie between its calls.
-use Rattle.std.specs.Prelude.{◌≡◌, ◌&&◌, ℕ, Bool, false, IsTrue, List, length, Option, Some, None, ◌⊎◌}
-use Rattle.std.specs.FinMap.{get, contains_key}
+use Rattle.std.specs.Prelude.{◌≡◌, ◌↔◌, ◌&&◌, ℕ, ◌+◌, ◌*◌, Bool, false, IsTrue, List, length, Option, Some, None, ◌⊎◌}
+use Rattle.std.specs.FinMap.{get, contains_key, empty}
 use Rattle.fixed_geom.specs.Poses.{Pose}
 use Rattle.voxel_block.specs.declared.key.BlockKey.{BlockKey}
 use Rattle.voxel_block.specs.declared.voxel.Voxel.{Voxel}
 use Rattle.camera.specs.declared.camera.CameraFields.{CameraFields}
 use Rattle.camera.specs.Cameras.{is_active}
 use Rattle.spatial_hash.specs.Contents.{contents}
+use Rattle.spatial_hash.specs.Table.{Table}
 use Rattle.block_places.specs.Owners.{owner_at}
 use Rattle.block_places.specs.Places.{Places, IsPlaced, blocks_of, cell_of}
-use Rattle.session.specs.Answers.{Held}
-use Rattle.session.specs.Maps.{HasWholeBlocks}
+use Rattle.fusion_core.specs.Laws.{HasKeysInReach, HasMapWeightsWithin, IsSound}
+use Rattle.scan_lang.specs.Config.{Config}
+use Rattle.session.specs.Answers.{Held, state_of}
+use Rattle.session.specs.Fold.{settings_of}
 
 -- whether a block is active for the last frame; none is where there is no last frame
 abbrev pub is_active_last : CameraFields → Option Pose → BlockKey → Bool
@@ -22,16 +25,21 @@ pub record IsStored (p : Places) (b : BlockKey) : Type 0 where
   pub slot : (v : List Voxel) × (get p.slots b ≡ Some (Some v))
   pub no_cell : (n : ℕ) (v : List Voxel) → owner_at p.heap n ≡ Some (b, v) → ⊥
 
--- it lies in exactly one cell, and its slot is empty
-pub record IsAway (p : Places) (b : BlockKey) : Type 0 where
+-- the block of a key is resident: it lies in exactly one cell, and its slot is empty
+pub record IsResident (p : Places) (b : BlockKey) : Type 0 where
   pub slot : get p.slots b ≡ Some None
   pub cell : (n : ℕ) × (v : List Voxel) × (owner_at p.heap n ≡ Some (b, v))
   pub only : (m n : ℕ) (v w : List Voxel) → owner_at p.heap m ≡ Some (b, v) → owner_at p.heap n ≡ Some (b, w) → m ≡ n
 
+-- the hash has the configuration's buckets, and two nodes for each cell of the heap and 65 more
+pub record HasSizeOf (c : Config) (t : Table) : Type 0 where
+  pub buckets : t.buckets ≡ c.buckets
+  pub nodes : t.nodes ≡ 2 * c.heap_blocks + 65
+
 -- what holds of a session between its calls
 pub record Stands (h : Held) : Type 0 where
   -- the block of each key of the map lies in just one place
-  pub one_place : (b : BlockKey) → IsTrue (contains_key (blocks_of h.places) b) → IsStored h.places b ⊎ IsAway h.places b
+  pub one_place : (b : BlockKey) → IsTrue (contains_key (blocks_of h.places) b) → IsStored h.places b ⊎ IsResident h.places b
   -- every slot is for a key of the map, and so is every owned cell
   pub slots : (b : BlockKey) → IsTrue (contains_key h.places.slots b) → IsTrue (contains_key (blocks_of h.places) b)
   pub owners : (b : BlockKey) (n : ℕ) (v : List Voxel) → owner_at h.places.heap n ≡ Some (b, v) → IsTrue (contains_key (blocks_of h.places) b)
@@ -43,12 +51,21 @@ pub record Stands (h : Held) : Type 0 where
   -- the hash names each key's cell: a cell that it names for a key is the key's, and it names each owned cell
   pub found : (b : BlockKey) (n : ℕ) → cell_of h.places.table b ≡ Some n → (v : List Voxel) × (owner_at h.places.heap n ≡ Some (b, v))
   pub named : (b : BlockKey) (n : ℕ) (v : List Voxel) → owner_at h.places.heap n ≡ Some (b, v) → cell_of h.places.table b ≡ Some n
-  -- the heap has as many cells as the configuration says
+  -- the heap has as many cells as the configuration says, and the hash as many buckets and nodes
   pub cells : length h.places.heap.cells ≡ h.config.heap_blocks
+  pub size : HasSizeOf h.config h.places.table
+  -- the map is empty where there is no last frame, and the number of frames is 0 exactly there
+  pub empty : h.last ≡ None → blocks_of h.places ≡ empty
+  pub frames : (h.frames ≡ 0) ↔ (h.last ≡ None)
+  -- no weight of the map is above the greatest one
+  pub weights : HasMapWeightsWithin h.config.max_weight (blocks_of h.places)
+  -- 8 voxels times each coordinate of a known key is at most 2^30 either way
+  pub reach : HasKeysInReach h.config.camera.voxel (blocks_of h.places)
 
--- what the session's type keeps, of which the rest follows: besides, each block of the map has 512 voxels
+-- what the session's type keeps, of which the rest follows
 pub record IsSettled (h : Held) : Type 0 where
   pub placed : IsPlaced h.places
-  pub whole : HasWholeBlocks (blocks_of h.places)
+  pub sound : IsSound (settings_of h.config) (state_of h)
   pub active : (b : BlockKey) → contains_key (contents h.places.table) b ≡ (contains_key (blocks_of h.places) b && is_active_last h.config.camera h.last b)
   pub cells : length h.places.heap.cells ≡ h.config.heap_blocks
+  pub size : HasSizeOf h.config h.places.table

@@ -1,9 +1,13 @@
-ghost use Rattle.std.specs.Prelude.{◌≡◌};
-ghost use Rattle.session.specs.declared.error.FrameError.TheVariants.{BadPose as bad_pose, NoMemory as no_memory};
+ghost use Rattle.std.specs.Prelude.{◌≡◌, IfSome, IfNone};
+ghost use Rattle.scan_io.specs.Reading.{refused, no_memory as out_of_memory};
+ghost use Rattle.session.specs.declared.error.FrameError.TheVariants.{NoMemory as no_memory};
 ghost use Rattle.session.specs.declared.error.ReadError.TheVariants.{NoMemory as not_read};
+ghost use Rattle.session.specs.Answers.{frame_cause, frame_error};
 
 use fixed_geom::BadPose;
+use fusion_core::Refusal;
 use std::alloc::AllocError;
+use std::fmt;
 use voxel_block::NoMemory;
 
 /// Why a frame was not fused. After each of them the session is as before.
@@ -15,15 +19,43 @@ pub enum FrameError {
     BadPose(BadPose),
     /// More blocks would be active than this limit of the configuration.
     HeapSpent { limit: u32 },
-    /// Memory is wanting.
+    /// Out of memory.
     NoMemory,
 }
 
-impl From<BadPose> for FrameError {
-    ghost from_gives = { λ why e. e ≡ bad_pose why };
+impl FrameError {
+    /// Why the frame is refused. `None` where memory ran out.
+    pub fn refusal(&self) -> Option<Refusal>
+        ensures refused { IfSome result (λ why. frame_cause self.now ≡ refused why) }
+        ensures memory { IfNone result (frame_cause self.now ≡ out_of_memory) }
+    {
+        match *self {
+            FrameError::Size { width, height } => Some(Refusal::Size { width, height }),
+            FrameError::BadPose(why) => Some(Refusal::BadPose(why)),
+            FrameError::HeapSpent { limit } => Some(Refusal::HeapSpent { limit }),
+            FrameError::NoMemory => None,
+        }
+    }
+}
 
-    fn from(why: BadPose) -> Self {
-        FrameError::BadPose(why)
+impl fmt::Display for FrameError {
+    fn fmt<W: fmt::Write>(&self, f: &mut fmt::Formatter<W>) -> fmt::Result {
+        match self.refusal() {
+            Some(why) => write!(f, "{why}"),
+            None => write!(f, "out of memory"),
+        }
+    }
+}
+
+impl From<Refusal> for FrameError {
+    ghost from_gives = { λ why e. e ≡ frame_error why };
+
+    fn from(why: Refusal) -> Self {
+        match why {
+            Refusal::Size { width, height } => FrameError::Size { width, height },
+            Refusal::BadPose(why) => FrameError::BadPose(why),
+            Refusal::HeapSpent { limit } => FrameError::HeapSpent { limit },
+        }
     }
 }
 
@@ -46,8 +78,14 @@ impl From<NoMemory> for FrameError {
 /// Why a map was not read. After it the session is as before.
 #[derive(Clone, Copy, Debug, PartialEq, Eq)]
 pub enum ReadError {
-    /// Memory is wanting.
+    /// Out of memory.
     NoMemory,
+}
+
+impl fmt::Display for ReadError {
+    fn fmt<W: fmt::Write>(&self, f: &mut fmt::Formatter<W>) -> fmt::Result {
+        write!(f, "out of memory")
+    }
 }
 
 impl From<AllocError> for ReadError {

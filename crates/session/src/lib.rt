@@ -1,9 +1,8 @@
-//! The map that a scan's frames are fused into, and what is answered to each record.
+//! The map that a scan's frames are fused into, and the answer to each record.
 #![tactic(auto)]
 
 mod band;
 mod error;
-mod frame;
 mod known;
 mod moving;
 mod room;

@@ -4,20 +4,19 @@ ghost use Rattle.std.specs.List.{count_by};
 ghost use Rattle.voxel_block.specs.declared.key.BlockKey.{BlockKey as Key};
 ghost use Rattle.spatial_hash.specs.Contents.{contents};
 ghost use Rattle.block_places.specs.Places.{IsPlaced, blocks_of};
-ghost use Rattle.session.specs.Frames.{IsFrame, is_active};
-ghost use Rattle.session.specs.Maps.{active_count};
+ghost use Rattle.fusion_core.specs.Frames.{is_active};
+ghost use Rattle.fusion_core.specs.Maps.{active_count};
 ghost use Rattle.session.specs.Rooms.{Moves, enters as enters_by, leaves as leaves_by, same_key};
 
-use crate::frame::Frame;
 use crate::room::leaves;
 use block_places::Places;
+use fusion_core::Frame;
 use voxel_block::{Block, BlockKey};
 
 /// Brings the blocks that are active for the frame into the heap, and all others to their slots. Takes no memory.
 ///
 /// `keys` are all known keys, and there are `spares` for those that leave.
 pub fn move_blocks(places: &mut Places, frame: &Frame, keys: &[BlockKey], spares: &mut Vec<Block>)
-    requires frame { IsFrame frame.now }
     requires placed { IsPlaced places.old }
     requires keys { keys.now ≡ keys_of (blocks_of places.old) }
     requires spares { length spares.old.items ≡ count_by (leaves_by frame.now places.old) keys.now }
@@ -31,7 +30,6 @@ pub fn move_blocks(places: &mut Places, frame: &Frame, keys: &[BlockKey], spares
 
 /// Brings the blocks that are not active for the frame to their slots.
 fn leave_all(places: &mut Places, frame: &Frame, keys: &[BlockKey], spares: &mut Vec<Block>)
-    requires frame { IsFrame frame.now }
     requires placed { IsPlaced places.old }
     requires keys { keys.now ≡ keys_of (blocks_of places.old) }
     requires spares { length spares.old.items ≡ count_by (leaves_by frame.now places.old) keys.now }
@@ -45,8 +43,7 @@ fn leave_all(places: &mut Places, frame: &Frame, keys: &[BlockKey], spares: &mut
 
 /// Brings a block to its slot, where it is not active for the frame.
 fn leave_one(places: &mut Places, frame: &Frame, key: BlockKey, spares: &mut Vec<Block>)
-    requires frame { IsFrame frame.now }
-    requires spares { IsTrue (leaves_by frame.now places.old key) → 0 < length spares.old.items }
+    requires { IsTrue (leaves_by frame.now places.old key) → 0 < length spares.old.items }
     ensures moved { Moves places.old places.new }
     ensures spares { length spares.new.items + (if leaves_by frame.now places.old key then 1 else 0) ≡ length spares.old.items }
     ensures left { (b : Key) → contains_key (contents places.new.table) b ≡ (contains_key (contents places.old.table) b && not (same_key b key && not (is_active frame.now key))) }
@@ -60,7 +57,6 @@ fn leave_one(places: &mut Places, frame: &Frame, key: BlockKey, spares: &mut Vec
 
 /// Brings the blocks that are active for the frame into the heap.
 fn enter_all(places: &mut Places, frame: &Frame, keys: &[BlockKey])
-    requires frame { IsFrame frame.now }
     requires placed { IsPlaced places.old }
     requires keys { keys.now ≡ keys_of (blocks_of places.old) }
     requires left { (b : Key) → IsTrue (contains_key (contents places.old.table) b) → IsTrue (is_active frame.now b) }
@@ -75,7 +71,6 @@ fn enter_all(places: &mut Places, frame: &Frame, keys: &[BlockKey])
 
 /// Brings a block into the heap, where it is active for the frame and does not lie there.
 fn enter_one(places: &mut Places, frame: &Frame, key: BlockKey)
-    requires frame { IsFrame frame.now }
     requires known { IsTrue (contains_key (blocks_of places.old) key) }
     requires free { IsTrue (enters_by frame.now places.old key) → 0 < length places.old.heap.free }
     ensures moved { Moves places.old places.new }
@@ -88,9 +83,8 @@ fn enter_one(places: &mut Places, frame: &Frame, key: BlockKey)
 
 /// Whether the block of a key enters the heap: it does not lie there, and is active for the frame.
 fn enters(places: &Places, frame: &Frame, key: BlockKey) -> bool
-    requires { IsFrame frame.now }
     ensures value { result ≡ enters_by frame.now places.now key }
     ensures placed { IsPlaced places.now }
 {
-    !places.is_away(key) && frame.camera.active(&frame.pose, key)
+    !places.is_away(key) && frame.is_active(key)
 }

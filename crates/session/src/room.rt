@@ -7,14 +7,14 @@ ghost use Rattle.voxel_block.specs.Keys.{key_cmp};
 ghost use Rattle.band_walk.specs.Bands.{band};
 ghost use Rattle.block_places.specs.Places.{blocks_of, IsPlaced};
 ghost use Rattle.session.specs.Answers.{AnswersRoom, resident_of};
-ghost use Rattle.session.specs.Frames.{IsFrame, view};
-ghost use Rattle.session.specs.Maps.{active_count as active_count_of, need, touched};
+ghost use Rattle.fusion_core.specs.Frames.{view};
+ghost use Rattle.fusion_core.specs.Maps.{active_count as active_count_of, need, touched};
 ghost use Rattle.session.specs.Rooms.{IsPlan, KeepsSlots, leaves as leaves_by};
 
 use crate::band::touch_band;
 use crate::error::FrameError;
-use crate::frame::Frame;
 use block_places::Places;
+use fusion_core::Frame;
 use std::alloc::{AllocError, Global};
 use std::collections::BTreeSet;
 use voxel_block::{Block, BlockKey, NoMemory};
@@ -32,7 +32,7 @@ pub struct Plan {
 
 /// Touches the blocks of the frame's band, and makes ready what its moves and updates need.
 ///
-/// Where more than `limit` blocks would be active, or memory is wanting, every block lies where it was, and there is no
+/// Where more than `limit` blocks would be active, or it is out of memory, every block lies where it was, and there is no
 /// other.
 pub fn make_room(
     alloc: Global,
@@ -40,12 +40,11 @@ pub fn make_room(
     frame: &Frame,
     limit: u32,
 ) -> Result<Plan, FrameError>
-    requires frame { IsFrame frame.now }
     requires limit { limit ≤ length places.old.heap.cells }
     ensures room { AnswersRoom limit (need (blocks_of places.old) frame.now) (resident_of result) }
     ensures touched { OnOk result (blocks_of places.new ≡ fold touched (blocks_of places.old) (band (view frame.now))) }
     ensures plan { IfOk result (IsPlan frame.now places.new) }
-    ensures cells { OnOk result (length places.new.heap.cells ≡ length places.old.heap.cells) }
+    ensures slots { OnOk result (KeepsSlots places.old places.new) }
     ensures kept { OnErr result (places.new ≡ places.old) }
 {
     let known = known_keys(alloc, places)?;
@@ -65,7 +64,6 @@ fn plan_within(
     frame: &Frame,
     limit: u32,
 ) -> Result<Plan, FrameError>
-    requires frame { IsFrame frame.now }
     requires limit { limit ≤ length places.old.heap.cells }
     ensures room { AnswersRoom limit (need (blocks_of places.old) frame.now) (resident_of result) }
     ensures touched { OnOk result (blocks_of places.new ≡ fold touched (blocks_of places.old) (band (view frame.now))) }
@@ -97,12 +95,11 @@ fn known_keys(alloc: Global, places: &Places) -> Result<BTreeSet<BlockKey>, Allo
 
 /// How many blocks are active for the frame.
 fn active_count(places: &Places, frame: &Frame) -> u64
-    requires { IsFrame frame.now }
     ensures { result ≡ active_count_of frame.now (blocks_of places.now) }
 {
     let mut count = 0;
     for key in places.keys() {
-        if frame.camera.active(&frame.pose, *key) {
+        if frame.is_active(*key) {
             count += 1;
         }
     }
@@ -133,7 +130,6 @@ fn all_keys(alloc: Global, places: &Places) -> Result<Vec<BlockKey>, AllocError>
 
 /// A block for each one that leaves the heap.
 fn spares(alloc: Global, places: &Places, frame: &Frame) -> Result<Vec<Block>, NoMemory>
-    requires { IsFrame frame.now }
     ensures { IfOk result (λ v. length v.items ≡ count_by (leaves_by frame.now places.now) (keys (blocks_of places.now))) }
 {
     let mut spares = Vec::new(alloc);
@@ -158,9 +154,8 @@ fn push_spare(alloc: Global, spares: &mut Vec<Block>) -> Result<(), NoMemory>
 
 /// Whether the block of a key leaves the heap: it lies there, and is not active for the frame.
 pub fn leaves(places: &Places, frame: &Frame, key: BlockKey) -> bool
-    requires { IsFrame frame.now }
     ensures value { result ≡ leaves_by frame.now places.now key }
     ensures placed { IsPlaced places.now }
 {
-    places.is_away(key) && !frame.camera.active(&frame.pose, key)
+    places.is_away(key) && !frame.is_active(key)
 }

@@ -1,26 +1,21 @@
-ghost use Rattle.std.specs.Prelude.{◌≡◌, ◌+◌, IfOk, OnOk, OnErr, Err, Some, true, false, pos};
-ghost use Rattle.std.specs.Ordering.{int_eq};
-ghost use Rattle.std.specs.FinMap.{len};
+ghost use Rattle.std.specs.Prelude.{◌≡◌, ◌≤◌, ◌+◌, ◌*◌, ◌&&◌, length, IfOk, IsOk, OnOk, OnErr, Ok, Err, true, false};
+ghost use Rattle.std.specs.FinMap.{contains_key, empty, len};
 ghost use Rattle.fixed_geom.specs.PoseTest.{accepted, pose_of};
-ghost use Rattle.scan_lang.specs.Config.{IsConfig};
-ghost use Rattle.scan_lang.specs.declared.entry.Entry.TheVariants as entries;
-ghost use Rattle.std.specs.Prelude.{◌*◌, ◌&&◌, length};
-ghost use Rattle.spatial_hash.specs.Contents.{contents};
 ghost use Rattle.voxel_block.specs.declared.key.BlockKey.{BlockKey as Key};
-ghost use Rattle.session.specs.Frames.{is_active};
-ghost use Rattle.std.specs.FinMap.{contains_key, empty};
-ghost use Rattle.spatial_hash.specs.Table.{empty as empty_table};
+ghost use Rattle.spatial_hash.specs.Contents.{contents};
+ghost use Rattle.spatial_hash.specs.Table.{KeepsSize, empty as empty_table};
 ghost use Rattle.block_heap.specs.Cells.{new_cells};
 ghost use Rattle.block_places.specs.Places.{IsPlaced, blocks_of};
+ghost use Rattle.fusion_core.specs.Frames.{is_active};
+ghost use Rattle.fusion_core.specs.Maps.{HasWholeBlocks, all_updated};
+ghost use Rattle.fusion_core.specs.Fold.{start as first_state, has_size};
+ghost use Rattle.scan_lang.specs.declared.entry.Entry.TheVariants as entries;
+ghost use Rattle.session.specs.Answers.{UnlessOutOfMemory, frame_cause, state_of};
+ghost use Rattle.session.specs.Fold.{after, frame_answer, known_voxels as known_voxels_of, settings_of, totals_of};
 ghost use Rattle.session.specs.Rooms.{IsPlan};
 ghost use Rattle.session.specs.Standing.{Stands};
-ghost use Rattle.session.specs.Answers.{AnswersFrame, state_of, offered as offered_of};
-ghost use Rattle.session.specs.Fold.{start as first_state, after, at_most_u64, has_size as has_size_of, known_voxels as known_voxels_of, totals_of};
-ghost use Rattle.session.specs.Frames.{IsFrame, frame_of as frame_by};
-ghost use Rattle.session.specs.Maps.{HasWholeBlocks, all_updated};
 
 use crate::error::{FrameError, ReadError};
-use crate::frame::Frame;
 use crate::known::known_voxels;
 use crate::moving::move_blocks;
 use crate::room::{Plan, make_room};
@@ -29,6 +24,7 @@ use crate::updating::update_all;
 use block_places::Places;
 use depth_frame::DepthFrame;
 use fixed_geom::{BadPose, Pose, PoseRows};
+use fusion_core::{Frame, Settings};
 use scan_lang::{Config, FrameDone, KnownVoxel, Totals};
 use std::alloc::Global;
 use std::marker::Model;
@@ -83,21 +79,21 @@ impl Session {
         rows: &PoseRows,
         depths: DepthFrame,
     ) -> Result<FrameDone, FrameError>
-        ensures answer { AnswersFrame self.old.config (state_of self.old) rows.now depths result }
+        ensures answer { UnlessOutOfMemory frame_cause (λ done. done) result (frame_answer self.old.config (state_of self.old) rows.now depths) }
         ensures state { OnOk result (state_of self.new ≡ after self.old.config (state_of self.old) (entries.Frame rows.now depths)) }
         ensures config { self.new.config ≡ self.old.config }
         ensures stands { Stands self.new }
         ensures kept { OnErr result (self.new ≡ self.old) }
-        ensures size { has_size_of self.old.config depths ≡ false → result ≡ Err (FrameError.Size depths.width depths.height) }
-        ensures pose { has_size_of self.old.config depths ≡ true → (why : BadPose) → accepted (pose_of rows.now) ≡ Err why → result ≡ Err (FrameError.BadPose why) }
+        ensures size { has_size self.old.config.camera depths ≡ false → result ≡ Err (FrameError.Size depths.width depths.height) }
+        ensures pose { has_size self.old.config.camera depths ≡ true → (why : BadPose) → accepted (pose_of rows.now) ≡ Err why → result ≡ Err (FrameError.BadPose why) }
     {
-        let frame = offered(&self.config, rows, depths)?;
+        let frame = Frame::offered(&settings(&self.config), rows, depths)?;
         let limit = self.config.heap_blocks();
         let plan = make_room(alloc, &mut self.places, &frame, limit)?;
         let resident = plan.resident;
         fuse(&mut self.places, &frame, plan);
         self.frames = self.frames.saturating_add(1);
-        self.last = Some(frame.pose);
+        self.last = Some(frame.pose());
         Ok(FrameDone {
             frame: self.frames,
             blocks: self.places.len() as u64,
@@ -116,8 +112,9 @@ impl Session {
         Ok((self.places.len() as u64, known))
     }
 
-    /// Totals over the map.
+    /// Totals over the map. Takes no memory, and always succeeds.
     pub fn totals(&mut self) -> Result<Totals, ReadError>
+        ensures done { IsOk result }
         ensures value { IfOk result (λ t. t ≡ totals_of (state_of self.old).blocks) }
         ensures kept { self.new ≡ self.old }
         ensures stands { Stands self.new }
@@ -128,60 +125,28 @@ impl Session {
 
 /// Moves the blocks of a map to where the frame has them, and updates each.
 fn fuse(places: &mut Places, frame: &Frame, plan: Plan)
-    requires frame { IsFrame frame.now }
     requires plan { IsPlan frame.now places.old plan }
     requires whole { HasWholeBlocks (blocks_of places.old) }
     ensures updated { blocks_of places.new ≡ all_updated frame.now (blocks_of places.old) }
     ensures active { (b : Key) → contains_key (contents places.new.table) b ≡ (contains_key (blocks_of places.new) b && is_active frame.now b) }
     ensures stays { IsPlaced places.new }
-    ensures whole { HasWholeBlocks (blocks_of places.new) }
     ensures cells { length places.new.heap.cells ≡ length places.old.heap.cells }
+    ensures size { KeepsSize places.old.table places.new.table }
 {
     let mut spares = plan.spares;
     move_blocks(places, frame, &plan.keys, &mut spares);
     update_all(places, frame, &plan.keys);
 }
 
-/// The frame of rows and a depth map, before its room is judged.
-fn offered(config: &Config, rows: &PoseRows, depths: DepthFrame) -> Result<Frame, FrameError>
-    ensures value { result ≡ offered_of config.now rows.now depths }
-    ensures frame { IfOk result IsFrame }
-    ensures camera { IfOk result (λ f. f.camera ≡ config.now.camera) }
+/// What a configuration has frames judged and fused by.
+fn settings(config: &Config) -> Settings
+    ensures value { result ≡ settings_of config.now }
+    ensures weight { 1 ≤ result.max_weight }
 {
-    if !has_size(config, &depths) {
-        return Err(FrameError::Size {
-            width: depths.width(),
-            height: depths.height(),
-        });
-    }
-    let pose = Pose::accept(rows)?;
-    Ok(frame_of(config, pose, depths))
-}
-
-/// Whether a depth map has the sides of the configuration.
-fn has_size(config: &Config, depths: &DepthFrame) -> bool
-    ensures { result ≡ has_size_of config.now depths.now }
-{
-    let camera = config.camera().fields();
-    is_side(depths.width(), camera.width) && is_side(depths.height(), camera.height)
-}
-
-fn is_side(side: u32, wanted: i64) -> bool
-    ensures { result ≡ int_eq (pos side) wanted }
-{
-    i64::from(side) == wanted
-}
-
-/// What a depth map and its pose are fused by.
-fn frame_of(config: &Config, pose: Pose, depths: DepthFrame) -> Frame
-    ensures value { result ≡ frame_by config.now pose depths }
-    ensures config { IsConfig config.now }
-{
-    Frame {
+    Settings {
         version: config.version(),
         camera: *config.camera(),
         max_weight: config.max_weight(),
-        pose,
-        depths,
+        heap_blocks: config.heap_blocks(),
     }
 }

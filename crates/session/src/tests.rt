@@ -3,6 +3,7 @@ use depth_frame::DepthFrame;
 use fixed_geom::{BadPose, PoseRows, Vec3};
 use scan_lang::{FrameDone, Totals, read_config};
 use std::alloc::Global;
+use std::test::Fail;
 
 const ONE: i64 = 1 << 30;
 
@@ -40,16 +41,24 @@ fn done(frame: u64, blocks: u64, resident: u32) -> Result<FrameDone, FrameError>
     })
 }
 
-// A wall one metre away, then another frame, and the totals behind both.
+// A wall one metre away, then another frame, and the totals after both.
 #[test]
 fn frames_are_fused_or_refused(rt: HostRuntime) {
     let alloc = rt.alloc();
     let wall = (AHEAD, 0, 1, 1000);
     let fused = done(1, 2, 2);
     let once = (2, 576, 576, -192);
-    for (heap_blocks, first, second, answer, sums) in [
-        (64, fused, wall, done(2, 2, 2), (2, 576, 1152, -192)),
+    for (name, heap_blocks, first, second, answer, sums) in [
         (
+            "the same wall",
+            64,
+            fused,
+            wall,
+            done(2, 2, 2),
+            (2, 576, 1152, -192),
+        ),
+        (
+            "a wall 1 cm behind it",
             64,
             fused,
             (AHEAD, 0, 1, 1010),
@@ -57,6 +66,7 @@ fn frames_are_fused_or_refused(rt: HostRuntime) {
             (2, 640, 1216, -128),
         ),
         (
+            "a wall far away",
             2,
             fused,
             (AHEAD, 50000000, 1, 1000),
@@ -64,6 +74,7 @@ fn frames_are_fused_or_refused(rt: HostRuntime) {
             (4, 1152, 1152, -384),
         ),
         (
+            "no room",
             1,
             Err(FrameError::HeapSpent { limit: 1 }),
             wall,
@@ -71,6 +82,7 @@ fn frames_are_fused_or_refused(rt: HostRuntime) {
             (0, 0, 0, 0),
         ),
         (
+            "too wide",
             64,
             fused,
             (AHEAD, 0, 2, 1000),
@@ -81,6 +93,7 @@ fn frames_are_fused_or_refused(rt: HostRuntime) {
             once,
         ),
         (
+            "too wide, and no pose",
             64,
             fused,
             (MIRRORED, 0, 2, 1000),
@@ -91,6 +104,7 @@ fn frames_are_fused_or_refused(rt: HostRuntime) {
             once,
         ),
         (
+            "no rotation",
             64,
             fused,
             (MIRRORED, 0, 1, 1000),
@@ -98,6 +112,7 @@ fn frames_are_fused_or_refused(rt: HostRuntime) {
             once,
         ),
         (
+            "too far from the origin",
             64,
             fused,
             (AHEAD, 1000000000, 1, 1000),
@@ -110,7 +125,7 @@ fn frames_are_fused_or_refused(rt: HostRuntime) {
         if let Some(mut session) = session {
             let (blocks, known, weight, distance) = sums;
             assert_eq!(rt; fuse(alloc, &mut session, wall), Some(first));
-            assert_eq!(rt; fuse(alloc, &mut session, second), Some(answer));
+            assert_eq!(rt; fuse(alloc, &mut session, second), Some(answer), "{}", name);
             assert_eq!(rt;
                 session.totals(),
                 Ok(Totals {
@@ -154,4 +169,54 @@ fn blocks_leave_the_heap_and_come_back(rt: HostRuntime) {
             })
         );
     }
+}
+
+// The same wall 300 times: each known voxel has the greatest weight.
+#[test]
+fn weights_stop_at_the_greatest(rt: HostRuntime) {
+    let alloc = rt.alloc();
+    let session = session(alloc, 64);
+    assert!(rt; session.is_some());
+    if let Some(mut session) = session {
+        for frame in 1..=300 {
+            let fused = fuse(alloc, &mut session, (AHEAD, 0, 1, 1000));
+            assert_eq!(rt; fused, Some(done(frame, 2, 2)));
+        }
+        assert_eq!(rt;
+            session.totals(),
+            Ok(Totals {
+                blocks: 2,
+                known: 576,
+                weight: 146880,
+                distance: -192
+            })
+        );
+    }
+}
+
+#[test]
+fn errors_are_told_in_words(rt: HostRuntime) -> Result<(), Fail> {
+    let size = FrameError::Size {
+        width: 2,
+        height: 1,
+    };
+    for (error, text) in [
+        (size, "the depth map has 2 by 1 pixels"),
+        (
+            FrameError::BadPose(BadPose::Range),
+            "the pose passes its bounds",
+        ),
+        (
+            FrameError::BadPose(BadPose::NotRotation),
+            "the pose has no rotation",
+        ),
+        (
+            FrameError::HeapSpent { limit: 4 },
+            "more than 4 blocks would be active",
+        ),
+        (FrameError::NoMemory, "out of memory"),
+    ] {
+        assert_eq!(rt; format!(in rt.alloc(); "{error}")?.as_str(), text);
+    }
+    Ok(())
 }

@@ -1,6 +1,7 @@
 ghost use Rattle.std.specs.Prelude.{◌≡◌, ◌<◌, ◌≤◌, ◌+◌, ◌^◌, fold, option_map};
 ghost use Rattle.block_places.specs.Places.{blocks_of};
-ghost use Rattle.session.specs.Fold.{at_most_u64 as at_most_u64_of, known_in, known_voxels, totals_of, within_i64 as within_i64_of};
+ghost use Rattle.scan_io.specs.Reading.{held};
+ghost use Rattle.session.specs.Fold.{known_in, known_voxels, totals_of, within_i64 as within_i64_of};
 ghost use Rattle.session.specs.Sums.{IsSum, known_in_option, nothing, added, added_if};
 
 use crate::known::known_at;
@@ -23,8 +24,8 @@ pub fn totals(places: &Places) -> Totals
     let sums = sums_over(places);
     Totals {
         blocks: places.len() as u64,
-        known: at_most_u64(sums.known),
-        weight: at_most_u64(sums.weight),
+        known: saturated(sums.known),
+        weight: saturated(sums.weight),
         distance: within_i64(sums.distance),
     }
 }
@@ -91,14 +92,14 @@ fn with_voxel(sums: Sums, voxel: Option<KnownVoxel>) -> Sums
     }
 }
 
-/// A number, held at the greatest one of 64 bits.
-fn at_most_u64(n: u128) -> u64
-    ensures { result ≡ at_most_u64_of n }
+/// A number that saturates at the greatest one of 64 bits.
+fn saturated(n: u128) -> u64
+    ensures { result ≡ held n }
 {
     n.min(u128::from(u64::MAX)) as u64
 }
 
-/// A number, held between the least and the greatest one of 64 bits with a sign.
+/// A number that saturates at the ends of 64 bits with a sign.
 fn within_i64(z: i128) -> i64
     ensures { result ≡ within_i64_of z }
 {

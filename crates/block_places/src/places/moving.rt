@@ -1,6 +1,7 @@
 ghost use Rattle.std.specs.Prelude.{◌≡◌, ◌+◌, ◌-◌, ◌<◌, ℕ, false, length, IsTrue, Some, slice_get};
 ghost use Rattle.std.specs.FinMap.{contains_key, insert, keys, remove};
 ghost use Rattle.spatial_hash.specs.Contents.{contents};
+ghost use Rattle.spatial_hash.specs.Table.{KeepsSize};
 ghost use Rattle.block_places.specs.Places.{IsPlaced, blocks_of};
 
 use super::Places;
@@ -18,6 +19,7 @@ impl Places {
         ensures known { keys self.new.slots ≡ keys self.old.slots }
         ensures free { length self.new.heap.free ≡ length self.old.heap.free + 1 }
         ensures cells { length self.new.heap.cells ≡ length self.old.heap.cells }
+        ensures size { KeepsSize self.old.table self.new.table }
         ensures placed { IsPlaced self.new }
     {
         let Some(cell) = cell_of(&self.table, key) else {
@@ -40,6 +42,7 @@ impl Places {
         ensures known { keys self.new.slots ≡ keys self.old.slots }
         ensures free { length self.new.heap.free + 1 ≡ length self.old.heap.free }
         ensures cells { length self.new.heap.cells ≡ length self.old.heap.cells }
+        ensures size { KeepsSize self.old.table self.new.table }
         ensures placed { IsPlaced self.new }
     {
         let Some(mut block) = slots::take(&mut self.slots, key) else {

@@ -1,12 +1,9 @@
-ghost use Rattle.std.specs.Prelude.{IfSome};
-ghost use Rattle.session.specs.Frames.{IsFrame};
-
 use crate::band::touch_band;
-use crate::frame::Frame;
 use block_places::Places;
 use camera::{Camera, CameraFields};
 use depth_frame::DepthFrame;
-use fixed_geom::{Pose, PoseRows, Vec3};
+use fixed_geom::{PoseRows, Vec3};
+use fusion_core::{Frame, Settings};
 use std::alloc::Global;
 use voxel_block::BlockKey;
 
@@ -32,22 +29,17 @@ const COLUMN: CameraFields = CameraFields {
 };
 
 // What the column sees from the origin where all its pixels show one sample.
-fn frame(alloc: Global, sample: u16) -> Option<Frame>
-    ensures { IfSome result IsFrame }
-{
-    let Ok(camera) = Camera::make(COLUMN) else {
-        return None;
+fn frame(alloc: Global, sample: u16) -> Option<Frame> {
+    let settings = Settings {
+        version: 1,
+        camera: Camera::make(COLUMN).ok()?,
+        max_weight: 255,
+        heap_blocks: 1,
     };
     let t = Vec3 { x: 0, y: 0, z: 0 };
-    let pose = Pose::accept(&PoseRows { r: AHEAD, t }).ok()?;
     let raw = vec![in alloc; sample; 8].ok()?;
-    Some(Frame {
-        version: 1,
-        camera,
-        max_weight: 255,
-        pose,
-        depths: DepthFrame::make(1, 8, raw),
-    })
+    let rows = PoseRows { r: AHEAD, t };
+    Frame::offered(&settings, &rows, DepthFrame::make(1, 8, raw)).ok()
 }
 
 // How many blocks the band of a wall has, and how many there are once the blocks (0, 0, z) are touched too.

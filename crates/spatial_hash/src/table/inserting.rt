@@ -14,6 +14,7 @@ impl HashTable {
     ghost use Rattle.spatial_hash.specs.Contents.{contents, IsKeyAt};
     ghost use Rattle.spatial_hash.specs.Sound.{EndsAt};
     ghost use Rattle.spatial_hash.specs.Spot.{IsFreeAt, IsNew};
+    ghost use Rattle.spatial_hash.specs.Table.{KeepsSize};
 
     /// Puts a new key with its cell, and gives the key's entry.
     ///
@@ -28,7 +29,7 @@ impl HashTable {
         ensures entry { IfOk result (λ e. IsKeyAt self.new key e) }
         ensures cell { IfOk result (λ e. slice_index self.new.cells e ≡ cell) }
         ensures others { StaysPut self.old self.new key }
-        ensures size { (self.new.buckets ≡ self.old.buckets) × (self.new.nodes ≡ self.old.nodes) }
+        ensures size { KeepsSize self.old self.new }
         ensures count { self.new.linked ≡ self.old.linked + (if is_ok result then nodes_for self.old key else 0) }
     {
         let word = key.word();

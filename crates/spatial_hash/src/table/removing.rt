@@ -9,7 +9,7 @@ use voxel_block::BlockKey;
 
 impl HashTable {
     ghost use Rattle.spatial_hash.specs.Hash.{home};
-    ghost use Rattle.spatial_hash.specs.Table.{key_word, link_word};
+    ghost use Rattle.spatial_hash.specs.Table.{KeepsSize, key_word, link_word};
     ghost use Rattle.spatial_hash.specs.Changes.{taken_to, cut, renumbered, shrunk};
     ghost use Rattle.spatial_hash.specs.Removal.{IsLast, IsBucketEnd, IsChainEnd, LeadsTo};
     ghost use Rattle.spatial_hash.specs.Walk.{place_of, nodes_from};
@@ -21,7 +21,7 @@ impl HashTable {
         ensures place { result ≡ is_some (place_of self.old key) }
         ensures map { contents self.new ≡ (if result then remove (contents self.old) key else contents self.old) }
         ensures same { result ≡ false → self.new ≡ self.old }
-        ensures size { (self.new.buckets ≡ self.old.buckets) × (self.new.nodes ≡ self.old.nodes) }
+        ensures size { KeepsSize self.old self.new }
         ensures count { self.new.linked ≡ self.old.linked - (if result then nodes_from self.old key else 0) }
     {
         let Spot::Held(entry) = self.seek(key) else {

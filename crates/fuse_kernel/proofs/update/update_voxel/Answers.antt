@@ -20,6 +20,6 @@ returns-in-Some c = λ m b voxels at was.
     met_more w c.args.max_weight b c.args.i voxels c.args.block.now c.set.new.self c.get.result c.averaged-voxel.result c.args.point c.in-Some.eta at was (c.in-Some.ensures.value m) c.get.ensures.count c.get.ensures.value
     (averaged_by w.camera c.fields.result.mu c.args.max_weight c.in-Some.eta c.get.result c.averaged-voxel.result r (ap (λ (k : CameraFields). k.mu) c.fields.ensures.value) c.in-Some.ensures.bound c.averaged-voxel.ensures.value) c.set.ensures
 
-pub returns-in-None : goal.returns-in-None
-returns-in-None c = λ m b voxels at was.
-    unmet_more (view_of c.args.camera.now m c.args.frame.now) c.args.max_weight b c.args.i voxels c.args.block.now c.args.point at was (c.in-None.ensures.value m) c.has_all_voxels.ensures c.requires.index
+pub returns-in_default : goal.returns-in_default
+returns-in_default c = λ m b voxels at was.
+    unmet_more (view_of c.args.camera.now m c.args.frame.now) c.args.max_weight b c.args.i voxels c.args.block.now c.args.point at was (c.in_default.ensures.value m)

@@ -1,10 +1,10 @@
 use Rattle.std.proofs.Common.{◌≡◌, ◌∙◌, ap, refl, arith}
 use Rattle.std.specs.List.{range_with_len, flat_map, fold}
 use Rattle.band_walk.specs.Bands.{row_blocks}
-use Rattle.session.specs.Frames.{view}
-use Rattle.session.specs.Maps.{touched}
+use Rattle.fusion_core.specs.Frames.{view}
+use Rattle.fusion_core.specs.Maps.{touched}
 use Rattle.block_places.specs.Places.{blocks_of}
-use Rattle.session.proofs.BandLemmas.{fold_list}
+use Rattle.fusion_core.proofs.TouchLemmas.{fold_list}
 use Rattle.session.proofs.KeepLemmas.{keeps_same, keeps_more}
 use Rattle.session.proofs.band.touch_band.Goals as goal
 

@@ -1,8 +1,8 @@
 use Rattle.std.proofs.Common.{◌≡◌}
 use Rattle.std.specs.List.{range_with_len, flat_map, fold}
 use Rattle.band_walk.specs.Bands.{row_blocks}
-use Rattle.session.specs.Frames.{view}
-use Rattle.session.specs.Maps.{touched}
+use Rattle.fusion_core.specs.Frames.{view}
+use Rattle.fusion_core.specs.Maps.{touched}
 use Rattle.session.specs.Rooms.{KeepsSlots}
 use Rattle.block_places.specs.Places.{blocks_of}
 use Rattle.session.proofs.band.touch_band.Given as goal

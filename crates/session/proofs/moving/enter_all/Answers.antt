@@ -4,7 +4,7 @@ use Rattle.voxel_block.specs.declared.key.BlockKey.{BlockKey}
 use Rattle.std.proofs.Common.{not}
 use Rattle.std.specs.FinMap.{contains_key}
 use Rattle.spatial_hash.specs.Contents.{contents}
-use Rattle.session.specs.Frames.{is_active}
+use Rattle.fusion_core.specs.Frames.{is_active}
 use Rattle.session.proofs.MovingLemmas.{entering_start, entering_known, entering_free, entering_next, entering_end, first_of, second_of, not_true, next_from, none_from}
 use Rattle.session.proofs.moving.enter_all.Goals as goal
 

@@ -1,7 +1,7 @@
 use Rattle.std.proofs.Common.{◌∙◌, ◌-◌, length, sym, ap, arith}
 use Rattle.std.specs.FinMap.{contains_key}
 use Rattle.spatial_hash.specs.Contents.{contents}
-use Rattle.session.specs.Frames.{is_active}
+use Rattle.fusion_core.specs.Frames.{is_active}
 use Rattle.session.proofs.MovingLemmas.{entered_after, out_after, second_of, some_at}
 use Rattle.session.proofs.moving.enter_one.Goals as goal
 

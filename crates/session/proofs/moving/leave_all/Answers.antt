@@ -7,8 +7,8 @@ use Rattle.session.proofs.moving.leave_all.Goals as goal
 pub loop-key-init : goal.loop-key-init
 loop-key-init c = leaving_start c.args.frame.now c.args.places.now c.args.keys.now (length c.args.spares.now.items) c.requires.placed c.requires.keys c.requires.spares
 
-pub leave_one-requires-clause-spares : goal.leave_one-requires-clause-spares
-leave_one-requires-clause-spares c =
+pub leave_one-requires : goal.leave_one-requires
+leave_one-requires c =
     let i = c.loop-key.key-index in
     let ks = c.args.keys.now in
     let k : BlockKey = slice_index_or ks i (record { x = pos 0; y = pos 0; z = pos 0 }) in

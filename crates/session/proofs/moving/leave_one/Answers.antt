@@ -1,7 +1,7 @@
 use Rattle.std.proofs.Common.{◌≡◌, false, ap, sym, ◌∙◌}
 use Rattle.std.specs.FinMap.{contains_key}
 use Rattle.spatial_hash.specs.Contents.{contents}
-use Rattle.session.specs.Frames.{is_active}
+use Rattle.fusion_core.specs.Frames.{is_active}
 use Rattle.session.proofs.MovingLemmas.{left_after, stays_after, second_of, not_true}
 use Rattle.session.proofs.moving.leave_one.Goals as goal
 

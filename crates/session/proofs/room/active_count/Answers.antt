@@ -2,8 +2,8 @@ use Rattle.std.proofs.Common.{◌≡◌, ◌+◌, length, sym, ap, ◌∙◌, ar
 use Rattle.std.specs.List.{count_by}
 use Rattle.std.specs.FinMap.{len}
 use Rattle.block_places.specs.Places.{blocks_of}
-use Rattle.session.specs.Frames.{is_active}
-use Rattle.session.proofs.MapLemmas.{counted_yes, counted_no, shorter, count_keys}
+use Rattle.fusion_core.specs.Frames.{is_active}
+use Rattle.session.proofs.CountLemmas.{counted_yes, counted_no, shorter, count_keys}
 use Rattle.session.proofs.room.active_count.Goals as goal
 
 pub overflow_add-count : goal.overflow_add-count
@@ -17,11 +17,11 @@ loop-key-init c =
       bound = let e : length c.into_iter-key-iterator.result ≡ len (blocks_of c.args.places.now) = ap length is ∙ sym (count_keys (blocks_of c.args.places.now)) in let f = c.keys-key-items.ensures.fits in omega (arith, e, f);
     }
 
-pub loop-key-preserved-then-active : goal.loop-key-preserved-then-active
-loop-key-preserved-then-active c =
+pub loop-key-preserved-then-is_active : goal.loop-key-preserved-then-is_active
+loop-key-preserved-then-is_active c =
     let e = shorter c.in-Some.key.now c.next.new.self c.loop-key.key-iterator c.in-Some.ensures.steps in
     let b = c.loop-key.invariant.bound in record {
-      left = counted_yes (is_active c.args.frame.now) c.in-Some.key.now c.next.new.self c.loop-key.key-iterator c.loop-key.count _ c.in-Some.ensures.steps (sym c.active.ensures.value ∙ c.if-active.true) c.loop-key.invariant.left;
+      left = counted_yes (is_active c.args.frame.now) c.in-Some.key.now c.next.new.self c.loop-key.key-iterator c.loop-key.count _ c.in-Some.ensures.steps (sym c.is_active.ensures.value ∙ c.if-is_active.true) c.loop-key.invariant.left;
       bound = omega arith;
     }
 
@@ -29,7 +29,7 @@ pub loop-key-preserved : goal.loop-key-preserved
 loop-key-preserved c =
     let e = shorter c.in-Some.key.now c.next.new.self c.loop-key.key-iterator c.in-Some.ensures.steps in
     let b = c.loop-key.invariant.bound in record {
-      left = counted_no (is_active c.args.frame.now) c.in-Some.key.now c.next.new.self c.loop-key.key-iterator c.loop-key.count _ c.in-Some.ensures.steps (sym c.active.ensures.value ∙ c.if-active.false) c.loop-key.invariant.left;
+      left = counted_no (is_active c.args.frame.now) c.in-Some.key.now c.next.new.self c.loop-key.key-iterator c.loop-key.count _ c.in-Some.ensures.steps (sym c.is_active.ensures.value ∙ c.if-is_active.false) c.loop-key.invariant.left;
       bound = omega arith;
     }
 

@@ -1,8 +1,8 @@
 use Rattle.std.proofs.Common.{◌≡◌, ◌+◌, ◌<◌, ◌^◌, length}
 use Rattle.std.specs.List.{count_by}
 use Rattle.block_places.specs.Places.{blocks_of}
-use Rattle.session.specs.Frames.{is_active}
-use Rattle.session.specs.Maps.{active_count}
+use Rattle.fusion_core.specs.Frames.{is_active}
+use Rattle.fusion_core.specs.Maps.{active_count}
 use Rattle.session.proofs.room.active_count.Given as goal
 
 abbrev pub invariant-loop-key : goal.invariant-loop-key

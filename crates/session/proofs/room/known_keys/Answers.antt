@@ -6,7 +6,7 @@ use Rattle.std.specs.FinMap.{contains_key-keys}
 use Rattle.voxel_block.specs.Keys.{key_cmp}
 use Rattle.voxel_block.proofs.KeyLaws.{keys_total}
 use Rattle.block_places.specs.Places.{blocks_of}
-use Rattle.session.proofs.MapLemmas.{same_key}
+use Rattle.fusion_core.proofs.MapLemmas.{same_key}
 use Rattle.session.proofs.room.known_keys.Goals as goal
 
 put : (is had rest : Bool) → (cond is true had || rest) ≡ (had || (is || rest))

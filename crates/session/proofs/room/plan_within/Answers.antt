@@ -3,8 +3,8 @@ use Rattle.std.specs.Prelude.{Ok, Err}
 use Rattle.std.proofs.lemmas.Result.{err_from_is_err_and}
 use Rattle.block_places.specs.Places.{blocks_of}
 use Rattle.session.specs.Answers.{AnswersRoom}
-use Rattle.session.specs.Maps.{active_count}
-use Rattle.session.proofs.FuseLemmas.{need_is}
+use Rattle.fusion_core.specs.Maps.{active_count}
+use Rattle.fusion_core.proofs.FuseLemmas.{need_is}
 use Rattle.session.proofs.room.plan_within.Goals as goal
 
 pub returns-in_err-resident-clause-room : goal.returns-in_err-resident-clause-room

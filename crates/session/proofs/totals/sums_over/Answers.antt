@@ -3,7 +3,7 @@ use Rattle.std.specs.List.{fold}
 use Rattle.std.specs.FinMap.{get, len}
 use Rattle.block_places.specs.Places.{blocks_of}
 use Rattle.session.specs.Sums.{nothing, added, known_in_option}
-use Rattle.session.proofs.MapLemmas.{shorter, count_keys}
+use Rattle.session.proofs.CountLemmas.{shorter, count_keys}
 use Rattle.session.proofs.KnownLemmas.{known_among, known_by_keys}
 use Rattle.session.proofs.SumLemmas.{summed, all_summed}
 use Rattle.session.proofs.totals.sums_over.Goals as goal

@@ -22,7 +22,7 @@ loop-key-preserved c =
     let ks = c.args.keys.now in
     let k : BlockKey = slice_index_or ks i (record { x = pos 0; y = pos 0; z = pos 0 }) in
     let step = next_from ks i (record { x = pos 0; y = pos 0; z = pos 0 }) c.loop-key-test.true in
-    updating_next c.args.frame.now c.args.places.now c.loop-key.places c.update_active.new.places k (drop i ks) (drop (i + 1) ks) c.requires.frame c.requires.whole c.loop-key.invariant step c.update_active.ensures.stays c.update_active.ensures.updated
+    updating_next c.args.frame.now c.args.places.now c.loop-key.places c.update_active.new.places k (drop i ks) (drop (i + 1) ks) c.update_active.ensures.frame c.requires.whole c.loop-key.invariant step c.update_active.ensures.stays c.update_active.ensures.updated
 
 pub returns-clause-updated : goal.returns-clause-updated
 returns-clause-updated c = updating_end c.args.frame.now c.args.places.now c.loop-key.places (drop c.loop-key.key-index c.args.keys.now) c.loop-key.invariant (none_from c.args.keys.now c.loop-key.key-index c.loop-key-test.false)

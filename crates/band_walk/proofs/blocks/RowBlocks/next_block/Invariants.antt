@@ -1,12 +1,12 @@
 use Rattle.std.proofs.Common.{◌≡◌, ◌-◌}
-use Rattle.band_walk.specs.Left.{IsPartway, blocks_left}
+use Rattle.band_walk.specs.Remaining.{IsRowBlocks, remaining_blocks}
 use Rattle.band_walk.proofs.blocks.RowBlocks.next_block.Given as goal
 
--- what is to come is the same
+-- the remaining blocks are the same
 abbrev pub invariant-loop-key : goal.invariant-loop-key
 invariant-loop-key l = record {
-  partway : IsPartway l.self;
-  left : blocks_left l.self ≡ blocks_left l.fn.self;
+  in_order : IsRowBlocks l.self;
+  remaining : remaining_blocks l.self ≡ remaining_blocks l.fn.self;
 }
 
 abbrev pub decreases-loop-key : goal.decreases-loop-key

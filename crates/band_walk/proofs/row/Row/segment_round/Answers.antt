@@ -8,11 +8,11 @@ use Rattle.fixed_geom.specs.Poses.{world}
 use Rattle.camera.specs.declared.camera.CameraFields.{CameraFields}
 use Rattle.camera.specs.Cameras.{ray}
 use Rattle.band_walk.specs.Bands.{segment_blocks, segment_start, segment_end}
-use Rattle.band_walk.specs.Left.{view_of_row}
+use Rattle.band_walk.specs.Remaining.{view_of_row}
 use Rattle.band_walk.proofs.row.Row.segment_round.Goals as goal
 
-pub returns-clause-left : goal.returns-clause-left
-returns-clause-left c =
+pub returns-clause-remaining : goal.returns-clause-remaining
+returns-clause-remaining c =
     let w = view_of_row c.args.self.now in
     let k = w.camera in
     let u = c.args.u in
@@ -26,4 +26,4 @@ returns-clause-left c =
     c.world_point-start.ensures.value ∙ ap at (to_z-of_z w64 c.first_depth.result (record { sfits = c.first_depth.type_inv }) ∙ c.first_depth.ensures.value ∙ ap (λ (q : CameraFields). int_max (pos 1) (to_z w64 (of_z w64 d) -ℤ q.mu)) is ∙ ap (λ z. int_max (pos 1) (z -ℤ k.mu)) depth) in
     let end : c.world_point-end.result ≡ segment_end w u v d =
     c.world_point-end.ensures.value ∙ ap at (to_z-of_z w64 c.last_depth.result (record { sfits = c.last_depth.type_inv }) ∙ c.last_depth.ensures.value ∙ ap (λ (q : CameraFields). to_z w64 (of_z w64 d) +ℤ q.mu) is ∙ ap (λ z. z +ℤ k.mu) depth) in
-    c.between.ensures.left ∙ (λ i. segment_blocks (size i) (start i) (end i))
+    c.between.ensures.remaining ∙ (λ i. segment_blocks (size i) (start i) (end i))

@@ -9,8 +9,8 @@ use Rattle.camera.specs.Grid.{block_at}
 use Rattle.band_walk.specs.Bands.{segment_point, steps_of}
 use Rattle.band_walk.proofs.segment.Segment.between.Goals as goal
 
-pub returns-clause-left : goal.returns-clause-left
-returns-clause-left c =
+pub returns-clause-remaining : goal.returns-clause-remaining
+returns-clause-remaining c =
     let a = c.args.start in
     let e = c.args.end in
     let blocks : ℤ → ℕ → ℕ → List BlockKey = λ s n k. map (λ j. block_at s (segment_point a e n j)) (range_with_len 0 k) in

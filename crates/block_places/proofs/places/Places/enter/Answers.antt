@@ -35,7 +35,7 @@ block c = stored_block (seen c.self.inside) c.args.key c.self.invariant (ap (λ 
 
 moved : (c : After-drop-block-inside-2) → IsEntered (seen c.self.inside) (after c) c.args.key c.in-Some-draw.cell (block c).0
 moved c = enters (seen c.self.inside) (after c) c.args.key c.in-Some-draw.cell (block c).0 c.in-Some.block c.self.invariant (block c).1 (stored c) c.in-Some.ensures.block c.take.ensures.slots
-    (when_ok (contents c.insert.new.self ≡ insert (contents c.self.inside.table) c.args.key c.in-Some-draw.cell) c.insert.result (sym c.is_err.ensures.value ∙ c.if-is_err.false) c.insert.ensures.map) c.insert.ensures.size.1 c.in-Some-draw.ensures.free (subst (λ (p : Places). 0 < length p.heap.free) (sym c.self.view_is) c.requires.free)
+    (when_ok (contents c.insert.new.self ≡ insert (contents c.self.inside.table) c.args.key c.in-Some-draw.cell) c.insert.result (sym c.is_err.ensures.value ∙ c.if-is_err.false) c.insert.ensures.map) c.insert.ensures.size.nodes c.in-Some-draw.ensures.free (subst (λ (p : Places). 0 < length p.heap.free) (sym c.self.view_is) c.requires.free)
     (c.exchange.ensures.heap ∙ ap (λ h. with_block_at h c.in-Some-draw.cell c.in-Some.block) c.in-Some-draw.ensures.after)
 
 pub invariant_of-self : goal.invariant_of-self

@@ -20,7 +20,7 @@ after c = seen (record { slots = c.put.new.slots; table = c.remove.new.self; hea
 
 moved : (c : After-put) → IsLeft (seen c.self.inside) (after c) c.args.key c.in-Some.cell
 moved c = leaves (seen c.self.inside) (after c) c.args.key c.in-Some.cell c.args.spare c.exchange.new.block c.remove.result c.self.invariant c.in-Some.ensures
-    c.put.ensures c.exchange.ensures.block c.remove.ensures.map c.remove.ensures.held c.remove.ensures.size.1
+    c.put.ensures c.exchange.ensures.block c.remove.ensures.map c.remove.ensures.held c.remove.ensures.size.nodes
     (c.give_up.ensures.after ∙ ap (λ h. given_up h c.in-Some.cell) c.exchange.ensures.heap)
 
 pub invariant_of-self : goal.invariant_of-self

@@ -1,86 +1,143 @@
-use Rattle.std.proofs.Common.{◌≡◌, ◌+◌, sym, ap, subst, ◌∙◌, rules}
+use Rattle.std.proofs.Common.{◌≡◌, ◌+◌, length, sym, ap, subst, ◌∙◌, rules}
 use Rattle.std.specs.Prelude.{Ok, Err, Some}
 use Rattle.std.proofs.lemmas.Result.{err_from_is_err_and}
+use Rattle.spatial_hash.specs.Table.{Table}
+use Rattle.block_heap.specs.Cells.{Cells}
 use Rattle.block_places.specs.Places.{Places, blocks_of}
 use Rattle.band_walk.specs.Bands.{band}
-use Rattle.session.specs.Frames.{view}
-use Rattle.session.specs.Maps.{HasWholeBlocks, need}
-use Rattle.session.specs.Fold.{State, after_frame, at_most_u64, judged, fused}
-use Rattle.session.specs.Answers.{Held, AnswersRoom, offered, state_of}
+use Rattle.scan_io.specs.Reading.{held}
+use Rattle.fusion_core.specs.declared.settings.Settings.{Settings}
+use Rattle.fusion_core.specs.Frames.{view}
+use Rattle.fusion_core.specs.Maps.{HasWholeBlocks, need}
+use Rattle.fusion_core.specs.Fold.{State, fused, offered}
+use Rattle.fusion_core.proofs.EachLemmas.{whole_all}
+use Rattle.session.specs.declared.error.FrameError.{FrameError}
+use Rattle.session.specs.Answers.{Held, AnswersRoom, state_of}
+use Rattle.session.specs.Fold.{settings_of}
 use Rattle.session.specs.Standing.{IsSettled}
-use Rattle.session.proofs.SessionLemmas.{refused, refused_room, accepted_room, fused_is, done_is}
-use Rattle.session.proofs.StandingLemmas.{settled_behind, stands}
-use Rattle.session.proofs.WholeLemmas.{whole_all}
+use Rattle.session.proofs.FrameLemmas.{IsAnswer, fused_arm, fused_is, fused_state, refused_arm, room_arm}
+use Rattle.session.proofs.StandingLemmas.{settled_after, stands}
+use Rattle.session.proofs.session.Session.frame.Goals.{After-drop-frame-inside, After-drop-frame-inside-2, After-from_residual}
 use Rattle.session.proofs.session.Session.frame.Goals as goal
 
-pub returns-in_err-frame-clause-answer : goal.returns-in_err-frame-clause-answer
-returns-in_err-frame-clause-answer c =
+-- ---- a frame that is refused for its size or its pose
+
+refused : (c : After-from_residual) → IsAnswer c.args.self.now.config (state_of c.args.self.now) c.args.rows.now c.args.depths c.from_residual.result
+refused c =
     let h = c.args.self.now in
+    let rows = c.args.rows.now in
+    let depths = c.args.depths in
     let p = err_from_is_err_and c.from_residual.result c.from_residual.ensures.1 in
-    rw (p.1, p.2) (refused h.config (state_of h) c.args.rows.now c.args.depths c.in_err-frame.field-0.0 (ap (λ (g : Held). offered g.config c.args.rows.now c.args.depths) (sym c.self.view_is) ∙ sym c.offered.ensures.value ∙ c.in_err-frame.was))
+    subst (IsAnswer h.config (state_of h) rows depths) (sym (p.1 ∙ ap (λ (e : FrameError). Err e) p.2)) (refused_arm h.config (state_of h) rows depths c.in_err-frame.field-0.0
+    (ap (λ (g : Held). offered (settings_of g.config) rows depths) (sym c.self.view_is) ∙ ap (λ (k : Settings). offered k rows depths) (sym c.settings.ensures.value) ∙ sym c.offered.ensures.value ∙ c.in_err-frame.was))
+
+pub returns-in_err-frame-clause-answer : goal.returns-in_err-frame-clause-answer
+returns-in_err-frame-clause-answer c = (refused c).answer
+
+pub returns-in_err-frame-clause-size : goal.returns-in_err-frame-clause-size
+returns-in_err-frame-clause-size c = (refused c).size
+
+pub returns-in_err-frame-clause-pose : goal.returns-in_err-frame-clause-pose
+returns-in_err-frame-clause-pose c = (refused c).pose
 
 pub returns-in_err-frame-clause-stands : goal.returns-in_err-frame-clause-stands
 returns-in_err-frame-clause-stands c = stands c.args.self.now (subst IsSettled c.self.view_is c.self.invariant)
 
-pub returns-in_err-plan-clause-answer : goal.returns-in_err-plan-clause-answer
-returns-in_err-plan-clause-answer c =
+-- ---- a frame that finds no room, or no memory
+
+no_room : (c : After-drop-frame-inside) → IsAnswer c.args.self.now.config (state_of c.args.self.now) c.args.rows.now c.args.depths c.from_residual-in_err-plan.result
+no_room c =
     let h = c.args.self.now in
+    let rows = c.args.rows.now in
+    let depths = c.args.depths in
     let f = c.in_ok-frame.frame in
-    let limit = c.heap_blocks-limit.result in
     let e = c.in_err-plan.field-0.0 in
     let p = err_from_is_err_and c.from_residual-in_err-plan.result c.from_residual-in_err-plan.ensures.1 in
-    rw (p.1, p.2) (refused_room h.config (state_of h) c.args.rows.now c.args.depths f limit e
-    (ap (λ (g : Held). offered g.config c.args.rows.now c.args.depths) (sym c.self.view_is) ∙ sym c.offered.ensures.value ∙ c.in_ok-frame.was)
-    (c.heap_blocks-limit.ensures.value ∙ ap (λ (g : Held). g.config.heap_blocks) c.self.view_is)
-    (subst (λ (g : Held). AnswersRoom limit (need (blocks_of g.places) f) (Err e)) c.self.view_is c.in_err-plan.ensures.room))
+    subst (IsAnswer h.config (state_of h) rows depths) (sym (p.1 ∙ ap (λ (e : FrameError). Err e) p.2)) (room_arm h.config (state_of h) rows depths f
+    (ap (λ (g : Held). offered (settings_of g.config) rows depths) (sym c.self.view_is) ∙ ap (λ (k : Settings). offered k rows depths) (sym c.settings.ensures.value) ∙ sym c.offered.ensures.value ∙ c.in_ok-frame.was)
+    e (subst (λ (g : Held). AnswersRoom g.config.heap_blocks (need (blocks_of g.places) f) (Err e)) c.self.view_is (subst (λ l. AnswersRoom l (need (blocks_of c.self.inside.places) f) (Err e)) c.heap_blocks-limit.ensures.value c.in_err-plan.ensures.room)))
+
+pub returns-in_err-plan-clause-answer : goal.returns-in_err-plan-clause-answer
+returns-in_err-plan-clause-answer c = (no_room c).answer
+
+pub returns-in_err-plan-clause-size : goal.returns-in_err-plan-clause-size
+returns-in_err-plan-clause-size c = (no_room c).size
+
+pub returns-in_err-plan-clause-pose : goal.returns-in_err-plan-clause-pose
+returns-in_err-plan-clause-pose c = (no_room c).pose
 
 pub returns-in_err-plan-clause-stands : goal.returns-in_err-plan-clause-stands
 returns-in_err-plan-clause-stands c =
     let with_places : Places → Held = λ p. record { config = c.self.inside.config; places = p; frames = c.self.inside.frames; last = c.self.inside.last } in
     stands (with_places c.make_room.new.places) (subst (λ p. IsSettled (with_places p)) (sym c.in_err-plan.ensures.kept) c.self.invariant)
 
+-- ---- a frame that is fused
+
 pub fuse-requires-clause-whole : goal.fuse-requires-clause-whole
-fuse-requires-clause-whole c = subst HasWholeBlocks (sym c.in_ok-plan.ensures.touched) (whole_all (blocks_of c.self.inside.places) (band (view c.in_ok-frame.frame)) c.self.invariant.whole)
+fuse-requires-clause-whole c = subst HasWholeBlocks (sym c.in_ok-plan.ensures.touched) (whole_all (blocks_of c.self.inside.places) (band (view c.in_ok-frame.frame)) c.self.invariant.sound.whole)
+
+-- the state before the frame, and the one after it
+old : After-drop-frame-inside-2 → State
+old c = record { blocks = blocks_of c.self.inside.places; frames = c.self.inside.frames; last = c.self.inside.last }
+
+new : After-drop-frame-inside-2 → State
+new c = record { blocks = blocks_of c.fuse.new.places; frames = c.saturating_add-self-inside.result; last = Some c.in_ok-frame.frame.pose }
+
+new_is : (c : After-drop-frame-inside-2) → new c ≡ fused (old c) c.in_ok-frame.frame
+unfolding old new
+new_is c =
+    let frames : c.saturating_add-self-inside.result ≡ held (c.self.inside.frames + 1) = search rules in
+    (λ i. record { blocks = c.fuse.ensures.updated i; frames = frames i; last = Some c.in_ok-frame.frame.pose }) ∙ fused_is (old c) c.in_ok-frame.frame (blocks_of c.make_room.new.places) c.in_ok-plan.ensures.touched
+
+settled : (c : After-drop-frame-inside-2) → IsSettled (record { config = c.self.inside.config; places = c.fuse.new.places; frames = c.saturating_add-self-inside.result; last = Some c.pose.result })
+unfolding old new
+settled c =
+    let f = c.in_ok-frame.frame in
+    let k = c.settings.ensures.value in
+    let slots = c.in_ok-plan.ensures.slots in
+    let size = c.self.invariant.size in
+    subst (λ m. IsSettled (record { config = c.self.inside.config; places = c.fuse.new.places; frames = c.saturating_add-self-inside.result; last = Some m })) (sym c.pose.ensures)
+    (settled_after c.self.inside.config (old c) c.fuse.new.places c.saturating_add-self-inside.result f c.self.invariant.sound c.in_ok-frame.ensures.frame
+    (c.in_ok-frame.ensures.camera ∙ ap (λ (s : Settings). s.camera) k) (c.in_ok-frame.ensures.max_weight ∙ ap (λ (s : Settings). s.max_weight) k) (new_is c) c.fuse.ensures.stays
+    (c.fuse.ensures.cells ∙ ap (λ (h : Cells). length h.cells) slots.heap ∙ c.self.invariant.cells)
+    (record { buckets = c.fuse.ensures.size.buckets ∙ ap (λ (t : Table). t.buckets) slots.table ∙ size.buckets; nodes = c.fuse.ensures.size.nodes ∙ ap (λ (t : Table). t.nodes) slots.table ∙ size.nodes })
+    c.fuse.ensures.active)
 
 pub invariant_of-self-2 : goal.invariant_of-self-2
-invariant_of-self-2 c =
-    settled_behind c.self.inside.config c.fuse.new.places c.saturating_add-self-inside.result c.in_ok-frame.frame c.in_ok-frame.ensures.camera c.fuse.ensures.stays c.fuse.ensures.whole
-    (c.fuse.ensures.cells ∙ c.in_ok-plan.ensures.cells ∙ c.self.invariant.cells) c.fuse.ensures.active
+invariant_of-self-2 c = settled c
 
 pub returns-clause-stands : goal.returns-clause-stands
-returns-clause-stands c =
-    let new : Held = record { config = c.self.inside.config; places = c.fuse.new.places; frames = c.saturating_add-self-inside.result; last = Some c.in_ok-frame.frame.pose } in
-    stands new (settled_behind c.self.inside.config c.fuse.new.places c.saturating_add-self-inside.result c.in_ok-frame.frame c.in_ok-frame.ensures.camera c.fuse.ensures.stays c.fuse.ensures.whole
-    (c.fuse.ensures.cells ∙ c.in_ok-plan.ensures.cells ∙ c.self.invariant.cells) c.fuse.ensures.active)
+returns-clause-stands c = stands _ (settled c)
+
+now_is : (c : After-drop-frame-inside-2) → record { blocks = blocks_of c.fuse.new.places; frames = c.saturating_add-self-inside.result; last = Some c.pose.result } ≡ fused (state_of c.args.self.now) c.in_ok-frame.frame
+unfolding old new
+now_is c = (λ i. record { blocks = blocks_of c.fuse.new.places; frames = c.saturating_add-self-inside.result; last = Some (c.pose.ensures i) }) ∙ new_is c ∙ ap (λ (g : Held). fused (state_of g) c.in_ok-frame.frame) c.self.view_is
+
+is_offered : (c : After-drop-frame-inside-2) → offered (settings_of c.args.self.now.config) c.args.rows.now c.args.depths ≡ Ok c.in_ok-frame.frame
+is_offered c =
+    ap (λ (g : Held). offered (settings_of g.config) c.args.rows.now c.args.depths) (sym c.self.view_is) ∙ ap (λ (k : Settings). offered k c.args.rows.now c.args.depths) (sym c.settings.ensures.value) ∙ sym c.offered.ensures.value ∙ c.in_ok-frame.was
+
+has_room : (c : After-drop-frame-inside-2) → AnswersRoom c.args.self.now.config.heap_blocks (need (blocks_of c.args.self.now.places) c.in_ok-frame.frame) (Ok c.in_ok-plan.plan.resident)
+has_room c =
+    let f = c.in_ok-frame.frame in
+    let n = c.in_ok-plan.plan.resident in
+    subst (λ (g : Held). AnswersRoom g.config.heap_blocks (need (blocks_of g.places) f) (Ok n)) c.self.view_is (subst (λ l. AnswersRoom l (need (blocks_of c.self.inside.places) f) (Ok n)) c.heap_blocks-limit.ensures.value c.in_ok-plan.ensures.room)
+
+answers : (c : After-drop-frame-inside-2) → IsAnswer c.args.self.now.config (state_of c.args.self.now) c.args.rows.now c.args.depths (Ok (record { frame = c.saturating_add-self-inside.result; blocks = c.len.result; resident = c.in_ok-plan.plan.resident }))
+answers c =
+    let h = c.args.self.now in
+    let n = c.in_ok-plan.plan.resident in
+    subst (λ b. IsAnswer h.config (state_of h) c.args.rows.now c.args.depths (Ok (record { frame = c.saturating_add-self-inside.result; blocks = b; resident = n }))) (sym c.len.ensures.blocks)
+    (fused_arm h.config (state_of h) c.args.rows.now c.args.depths c.in_ok-frame.frame (is_offered c) _ n (now_is c) (has_room c))
 
 pub returns-clause-answer : goal.returns-clause-answer
-returns-clause-answer c =
-    let h = c.args.self.now in
-    let f = c.in_ok-frame.frame in
-    let n = c.in_ok-plan.plan.resident in
-    let limit = c.heap_blocks-limit.result in
-    let room : AnswersRoom limit (need (blocks_of h.places) f) (Ok n) = subst (λ (g : Held). AnswersRoom limit (need (blocks_of g.places) f) (Ok n)) c.self.view_is c.in_ok-plan.ensures.room in
-    let is : judged h.config (state_of h) c.args.rows.now c.args.depths ≡ Ok f = accepted_room h.config (state_of h) c.args.rows.now c.args.depths f limit n
-    (ap (λ (g : Held). offered g.config c.args.rows.now c.args.depths) (sym c.self.view_is) ∙ sym c.offered.ensures.value ∙ c.in_ok-frame.was)
-    (c.heap_blocks-limit.ensures.value ∙ ap (λ (g : Held). g.config.heap_blocks) c.self.view_is) room in
-    let frames : c.saturating_add-self-inside.result ≡ at_most_u64 (c.self.inside.frames + 1) = search rules in
-    let old : State = record { blocks = blocks_of c.self.inside.places; frames = c.self.inside.frames; last = c.self.inside.last } in
-    let now : State = record { blocks = blocks_of c.fuse.new.places; frames = c.saturating_add-self-inside.result; last = Some f.pose } in
-    let new : now ≡ fused (state_of h) f =
-    (λ i. record { blocks = c.fuse.ensures.updated i; frames = frames i; last = Some f.pose }) ∙ fused_is old f (blocks_of c.make_room.new.places) c.in_ok-plan.ensures.touched ∙ ap (λ (g : Held). fused (state_of g) f) c.self.view_is in
-    (f, is, (λ i. record { frame = c.saturating_add-self-inside.result; blocks = c.len.ensures.blocks i; resident = n }) ∙ done_is (state_of h) now f n new room.1)
+returns-clause-answer c = (answers c).answer
+
+pub returns-clause-size : goal.returns-clause-size
+returns-clause-size c = (answers c).size
+
+pub returns-clause-pose : goal.returns-clause-pose
+returns-clause-pose c = (answers c).pose
 
 pub returns-clause-state : goal.returns-clause-state
-returns-clause-state c =
-    let h = c.args.self.now in
-    let f = c.in_ok-frame.frame in
-    let n = c.in_ok-plan.plan.resident in
-    let limit = c.heap_blocks-limit.result in
-    let room : AnswersRoom limit (need (blocks_of h.places) f) (Ok n) = subst (λ (g : Held). AnswersRoom limit (need (blocks_of g.places) f) (Ok n)) c.self.view_is c.in_ok-plan.ensures.room in
-    let is : judged h.config (state_of h) c.args.rows.now c.args.depths ≡ Ok f = accepted_room h.config (state_of h) c.args.rows.now c.args.depths f limit n
-    (ap (λ (g : Held). offered g.config c.args.rows.now c.args.depths) (sym c.self.view_is) ∙ sym c.offered.ensures.value ∙ c.in_ok-frame.was)
-    (c.heap_blocks-limit.ensures.value ∙ ap (λ (g : Held). g.config.heap_blocks) c.self.view_is) room in
-    let frames : c.saturating_add-self-inside.result ≡ at_most_u64 (c.self.inside.frames + 1) = search rules in
-    let old : State = record { blocks = blocks_of c.self.inside.places; frames = c.self.inside.frames; last = c.self.inside.last } in
-    (λ i. record { blocks = c.fuse.ensures.updated i; frames = frames i; last = Some f.pose }) ∙ fused_is old f (blocks_of c.make_room.new.places) c.in_ok-plan.ensures.touched ∙ ap (λ (g : Held). fused (state_of g) f) c.self.view_is
-    ∙ ap (after_frame (state_of h)) (sym is)
+returns-clause-state c = fused_state c.args.self.now.config (state_of c.args.self.now) c.args.rows.now c.args.depths c.in_ok-frame.frame (is_offered c) _ c.in_ok-plan.plan.resident (now_is c) (has_room c)

@@ -1,0 +1,4 @@
+pub mod Fold
+pub mod Frames
+pub mod Laws
+pub mod Maps
