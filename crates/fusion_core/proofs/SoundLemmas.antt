@@ -12,7 +12,7 @@ use Rattle.voxel_block.specs.Keys.{key_cmp}
 use Rattle.voxel_block.specs.Blocks.{new_block}
 use Rattle.voxel_block.specs.Voxels.{new_voxel}
 use Rattle.camera.specs.declared.camera.CameraFields.{CameraFields}
-use Rattle.scan_io.specs.Reading.{held}
+use Rattle.scan_io.specs.Reading.{saturated}
 use Rattle.camera.specs.Visibility.{IsInReach}
 use Rattle.band_walk.specs.Bands.{band}
 use Rattle.band_walk.proofs.BandSet.{band_block_is_active, from_band}
@@ -58,7 +58,7 @@ start_is_sound c = record {
   frames = (λ e. refl, λ e. refl);
 }
 
-some_frame : (n : ℕ) → held (n + 1) ≡ 0 → ⊥
+some_frame : (n : ℕ) → saturated (n + 1) ≡ 0 → ⊥
 some_frame n e = omega arith
 
 some_last : (p : Pose) → Some p ≡ None → ⊥

@@ -8,7 +8,7 @@ use Rattle.fixed_geom.specs.declared.pose.PoseRows.{PoseRows}
 use Rattle.fixed_geom.specs.declared.pose.BadPose.{BadPose}
 use Rattle.depth_frame.specs.DepthMaps.{DepthMap}
 use Rattle.camera.specs.declared.camera.CameraFields.{CameraFields}
-use Rattle.scan_io.specs.Reading.{held}
+use Rattle.scan_io.specs.Reading.{saturated}
 use Rattle.scan_io.specs.Steps.{◌>>=◌}
 use Rattle.fusion_core.specs.declared.settings.Settings.{Settings}
 use Rattle.fusion_core.specs.declared.refusal.Refusal.{Refusal}
@@ -29,7 +29,7 @@ start = record { blocks = empty; frames = 0; last = None }
 
 -- the state after a frame was fused; the number of frames saturates
 abbrev pub fused : State → Frame → State
-fused s f = record { blocks = fuse s.blocks f; frames = held (s.frames + 1); last = Some f.pose }
+fused s f = record { blocks = fuse s.blocks f; frames = saturated (s.frames + 1); last = Some f.pose }
 
 -- a frame that is refused changes nothing
 abbrev pub after_frame : State → Result Frame Refusal → State

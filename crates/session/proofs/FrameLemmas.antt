@@ -8,7 +8,7 @@ use Rattle.fixed_geom.specs.declared.pose.PoseRows.{PoseRows}
 use Rattle.fixed_geom.specs.declared.pose.BadPose.{BadPose}
 use Rattle.depth_frame.specs.DepthMaps.{DepthMap}
 use Rattle.band_walk.specs.Bands.{band}
-use Rattle.scan_io.specs.Reading.{held}
+use Rattle.scan_io.specs.Reading.{Allows, UnlessOutOfMemory, saturated}
 use Rattle.scan_io.specs.Steps.{◌>>=◌}
 use Rattle.fusion_core.specs.declared.refusal.Refusal.{Refusal}
 use Rattle.fusion_core.specs.declared.refusal.Refusal.TheVariants as refusals
@@ -21,7 +21,7 @@ use Rattle.scan_lang.specs.Config.{Config}
 use Rattle.scan_lang.specs.declared.reply.FrameDone.{FrameDone}
 use Rattle.session.specs.declared.error.FrameError.{FrameError}
 use Rattle.session.specs.declared.error.FrameError.TheVariants as errors
-use Rattle.session.specs.Answers.{Allows, AnswersRoom, UnlessOutOfMemory, frame_cause, frame_error}
+use Rattle.session.specs.Answers.{AnswersRoom, frame_cause, frame_error}
 use Rattle.session.specs.Fold.{frame_answer, frame_done, settings_of}
 
 module _ (c : Config) (s : State) (rows : PoseRows) (depths : DepthMap) where
@@ -77,5 +77,5 @@ module _ (c : Config) (s : State) (rows : PoseRows) (depths : DepthMap) where
     fused_state now n new a = new ∙ ap (after_frame s) (sym (judged_accepted (settings_of c) s rows depths f is a.0))
 
 -- the state after the blocks of the band were touched and every block was updated
-pub fused_is : (s : State) (f : Frame) (m : BlockMap) → m ≡ fold touched s.blocks (band (view f)) → record { blocks = all_updated f m; frames = held (s.frames + 1); last = Some f.pose } ≡ fused s f
-fused_is s f m e = ap (λ (b : BlockMap). record { blocks = b; frames = held (s.frames + 1); last = Some f.pose }) (ap (all_updated f) e ∙ fuse_is f s.blocks)
+pub fused_is : (s : State) (f : Frame) (m : BlockMap) → m ≡ fold touched s.blocks (band (view f)) → record { blocks = all_updated f m; frames = saturated (s.frames + 1); last = Some f.pose } ≡ fused s f
+fused_is s f m e = ap (λ (b : BlockMap). record { blocks = b; frames = saturated (s.frames + 1); last = Some f.pose }) (ap (all_updated f) e ∙ fuse_is f s.blocks)

@@ -2,7 +2,7 @@
 use Rattle.std.specs.Prelude.{◌≡◌, ℕ, ◌<◌, ◌≤◌, Option, Result, Ok, Err, ⊤}
 use Rattle.fixed_geom.specs.Poses.{Pose}
 use Rattle.block_places.specs.Places.{Places, blocks_of}
-use Rattle.scan_io.specs.Reading.{Cause, refused, failed, no_memory}
+use Rattle.scan_io.specs.Reading.{Cause, refused, no_memory}
 use Rattle.fusion_core.specs.declared.refusal.Refusal.{Refusal}
 use Rattle.fusion_core.specs.declared.refusal.Refusal.TheVariants as refusals
 use Rattle.fusion_core.specs.Fold.{State}
@@ -37,17 +37,6 @@ frame_cause (errors.Size width height) = refused (refusals.Size width height)
 frame_cause (errors.BadPose why) = refused (refusals.BadPose why)
 frame_cause (errors.HeapSpent limit) = refused (refusals.HeapSpent limit)
 frame_cause errors.NoMemory = no_memory
-
--- what a cause says of a definition's answer: a refusal is that answer, no source failed, and out of memory nothing is said
-abbrev pub Allows : {Y W : Type 0} → Cause W → Result Y W → Type 0
-Allows (refused why) answer = answer ≡ Err why
-Allows failed answer = ⊥
-Allows no_memory answer = ⊤
-
--- what was answered, under a view, is the definition's answer, unless it is out of memory
-abbrev pub UnlessOutOfMemory : {X Y E W : Type 0} → (cause : E → Cause W) → (view : X → Y) → Result X E → Result Y W → Type 0
-UnlessOutOfMemory cause view (Ok x) answer = answer ≡ Ok (view x)
-UnlessOutOfMemory cause view (Err e) answer = Allows (cause e) answer
 
 -- ---- the room, of which only the session's parts speak
 

@@ -9,7 +9,7 @@ use Rattle.voxel_block.specs.declared.key.BlockKey.{BlockKey}
 use Rattle.voxel_block.specs.declared.voxel.Voxel.{Voxel}
 use Rattle.depth_frame.specs.DepthMaps.{DepthMap}
 use Rattle.camera.specs.Grid.{voxel_coordinates}
-use Rattle.scan_io.specs.Reading.{held}
+use Rattle.scan_io.specs.Reading.{saturated}
 use Rattle.scan_io.specs.Steps.{◌>>=◌}
 use Rattle.fusion_core.specs.declared.settings.Settings.{Settings}
 use Rattle.fusion_core.specs.declared.refusal.Refusal.{Refusal}
@@ -78,9 +78,9 @@ within_i64 z = int_max (neg_ℤ (pos (2 ^ 63))) (int_min (pos (2 ^ 63 - 1)) z)
 -- the numbers of blocks and of known voxels, the sum of their weights and that of their distances; each saturates
 abbrev pub totals_of : BlockMap → Totals
 totals_of m = record {
-  blocks = held (len m);
-  known = held (length (known_voxels m));
-  weight = held (sum_by (λ v. v.w) (known_voxels m));
+  blocks = saturated (len m);
+  known = saturated (length (known_voxels m));
+  weight = saturated (sum_by (λ v. v.w) (known_voxels m));
   distance = within_i64 (fold (λ a v. a +ℤ v.f) (pos 0) (known_voxels m));
 }
 

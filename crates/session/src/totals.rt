@@ -1,6 +1,6 @@
 ghost use Rattle.std.specs.Prelude.{◌≡◌, ◌<◌, ◌≤◌, ◌+◌, ◌^◌, fold, option_map};
 ghost use Rattle.block_places.specs.Places.{blocks_of};
-ghost use Rattle.scan_io.specs.Reading.{held};
+ghost use Rattle.scan_io.specs.Reading.{saturated as saturated_of};
 ghost use Rattle.session.specs.Fold.{known_in, known_voxels, totals_of, within_i64 as within_i64_of};
 ghost use Rattle.session.specs.Sums.{IsSum, known_in_option, nothing, added, added_if};
 
@@ -94,7 +94,7 @@ fn with_voxel(sums: Sums, voxel: Option<KnownVoxel>) -> Sums
 
 /// A number that saturates at the greatest one of 64 bits.
 fn saturated(n: u128) -> u64
-    ensures { result ≡ held n }
+    ensures { result ≡ saturated_of n }
 {
     n.min(u128::from(u64::MAX)) as u64
 }

@@ -5,7 +5,7 @@ use Rattle.spatial_hash.specs.Table.{Table}
 use Rattle.block_heap.specs.Cells.{Cells}
 use Rattle.block_places.specs.Places.{Places, blocks_of}
 use Rattle.band_walk.specs.Bands.{band}
-use Rattle.scan_io.specs.Reading.{held}
+use Rattle.scan_io.specs.Reading.{saturated}
 use Rattle.fusion_core.specs.declared.settings.Settings.{Settings}
 use Rattle.fusion_core.specs.Frames.{view}
 use Rattle.fusion_core.specs.Maps.{HasWholeBlocks, need}
@@ -86,7 +86,7 @@ new c = record { blocks = blocks_of c.fuse.new.places; frames = c.saturating_add
 new_is : (c : After-drop-frame-inside-2) → new c ≡ fused (old c) c.in_ok-frame.frame
 unfolding old new
 new_is c =
-    let frames : c.saturating_add-self-inside.result ≡ held (c.self.inside.frames + 1) = search rules in
+    let frames : c.saturating_add-self-inside.result ≡ saturated (c.self.inside.frames + 1) = search rules in
     (λ i. record { blocks = c.fuse.ensures.updated i; frames = frames i; last = Some c.in_ok-frame.frame.pose }) ∙ fused_is (old c) c.in_ok-frame.frame (blocks_of c.make_room.new.places) c.in_ok-plan.ensures.touched
 
 settled : (c : After-drop-frame-inside-2) → IsSettled (record { config = c.self.inside.config; places = c.fuse.new.places; frames = c.saturating_add-self-inside.result; last = Some c.pose.result })
