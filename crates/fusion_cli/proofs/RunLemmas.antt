@@ -194,9 +194,9 @@ module _ (c : Config) where
   }
 
   -- out of memory once an entry was read, or before the first
-  pub exit_memory : (before now new : Stream) (n offset : ℕ) (s : State) (sink grown : Told) → LosesFront now.come new.left → new.faults ≡ now.faults → Running before now n offset s sink grown → IsRun (start_of before) (source_of new) sink grown (ended (Err stops.NoMemory))
-  exit_memory before now new n offset s sink grown drop kept run = record {
-    answer = memory_known run.done (output_after run.done s n offset) before.given now.given before.come now.come new.left sink.bytes grown.bytes run.came.known (first_replies run.done s n offset) run.written;
+  pub exit_memory : (before now : Stream) (left : Option (List ℕ)) (faults n offset : ℕ) (s : State) (sink grown : Told) → LosesFront now.come left → faults ≡ now.faults → Running before now n offset s sink grown → IsRun (start_of before) (record { bytes = left; faults = faults }) sink grown (ended (Err stops.NoMemory))
+  exit_memory before now left faults n offset s sink grown drop kept run = record {
+    answer = memory_known run.done (output_after run.done s n offset) before.given now.given before.come now.come left sink.bytes grown.bytes run.came.known (first_replies run.done s n offset) run.written;
     front = loses_more run.came.front drop;
     grows = run.grows;
     reads = kept ∙ run.came.faults;

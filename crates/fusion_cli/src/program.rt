@@ -10,7 +10,7 @@ ghost use Rattle.fusion_cli.specs.Status.{exit_code_of};
 use crate::run::run_fusion;
 use crate::status::Status;
 use scan_io::{Sink, Source, put_all};
-use std::alloc::Global;
+use std::alloc::{AllocError, Global};
 use std::env::Args;
 use std::io::{self, ErrorKind};
 use voxel_block::NoMemory;
@@ -82,14 +82,26 @@ fn words(alloc: Global, args: io::Result<Args>) -> Result<Vec<String>, Status>
 }
 
 /// The arguments after the first.
-fn after_name(alloc: Global, mut args: Args) -> Result<Vec<String>, Status>
+fn after_name(alloc: Global, args: Args) -> Result<Vec<String>, Status>
     ensures words { IfOk result (λ v. v.items ≡ drop 1 (into_iter_items args)) }
     ensures error { IfErr result (λ s. s ≡ Status.NoMemory) }
 {
-    let _name = args.next();
-    match args.collect(alloc) {
-        Ok(words) => Ok(words),
+    let all: Result<Vec<String>, AllocError> = args.collect(alloc);
+    match all {
+        Ok(mut words) => {
+            drop_first(&mut words);
+            Ok(words)
+        }
         Err(_) => Err(Status::NoMemory),
+    }
+}
+
+/// Drops the first word, if there is one.
+fn drop_first(words: &mut Vec<String>)
+    ensures { words.new.items ≡ drop 1 words.old.items }
+{
+    if !words.is_empty() {
+        let _name = words.remove(0);
     }
 }
 

@@ -26,7 +26,7 @@ pub returns-in_err-session : goal.returns-in_err-session
 returns-in_err-session g c =
     let p = err_from_is_err_and c.from_residual-in_err-session.result c.from_residual-in_err-session.ensures.1 in
     let now = c.in_ok-config.reader.kept in
-    rw (p.1, p.2) (exit_memory c.in_ok-config.config _ _ _ _ _ _ _ _ (loses_feed now _) refl (starts c.in_ok-config.config begun_by (c.in_ok-config.config, c.in_ok-config.reader) _ _ _ refl c.in_ok-config.ensures.begin))
+    rw (p.1, p.2) (exit_memory c.in_ok-config.config _ _ _ _ _ _ _ _ _ (loses_feed now _) refl (starts c.in_ok-config.config begun_by (c.in_ok-config.config, c.in_ok-config.reader) _ _ _ refl c.in_ok-config.ensures.begin))
 
 pub loop-init : goal.loop-init
 loop-init g c = record {
@@ -43,13 +43,13 @@ pub returns-in_err-reply : goal.returns-in_err-reply
 returns-in_err-reply g c =
     let p = err_from_is_err_and c.from_residual-in_err-reply.result c.from_residual-in_err-reply.ensures.1 in
     let read = c.in_ok-entry.ensures.entry in
-    rw (p.1, p.2, c.in_err-reply.ensures.error) (exit_memory c.loop.session.config _ _ _ c.loop.reader.left c.loop.reader.kept.given (state_of c.loop.session) _ _ (loses_more read.front (loses_feed c.next.new.self.kept _)) read.faults c.loop.invariant.run)
+    rw (p.1, p.2, c.in_err-reply.ensures.error) (exit_memory c.loop.session.config _ _ _ _ c.loop.reader.left c.loop.reader.kept.given (state_of c.loop.session) _ _ (loses_more read.front (loses_feed c.next.new.self.kept _)) read.faults c.loop.invariant.run)
 
 pub returns-in_err-bytes : goal.returns-in_err-bytes
 returns-in_err-bytes g c =
     let p = err_from_is_err_and c.from_residual-in_err-bytes.result c.from_residual-in_err-bytes.ensures.1 in
     let read = c.in_ok-entry.ensures.entry in
-    rw (p.1, p.2) (exit_memory c.loop.session.config _ _ _ c.loop.reader.left c.loop.reader.kept.given (state_of c.loop.session) _ _ (loses_more read.front (loses_feed c.next.new.self.kept _)) read.faults c.loop.invariant.run)
+    rw (p.1, p.2) (exit_memory c.loop.session.config _ _ _ _ c.loop.reader.left c.loop.reader.kept.given (state_of c.loop.session) _ _ (loses_more read.front (loses_feed c.next.new.self.kept _)) read.faults c.loop.invariant.run)
 
 pub returns-in_err-put_reply : goal.returns-in_err-put_reply
 returns-in_err-put_reply g c =
