@@ -1,17 +1,19 @@
 -- What a run answers and writes.
-use Rattle.std.specs.Prelude.{◌≡◌, ℕ, List, [], ◌∷◌, ◌++◌, codes, Option, None, Some, IfSome, Result, Ok, Err, take, Bool, false, ⊤}
+use Rattle.std.specs.Prelude.{◌≡◌, ℕ, ◌≤◌, List, [], ◌∷◌, ◌++◌, codes, Option, None, Some, IfSome, Result, Ok, Err, take, Bool, false, ⊤}
 use Rattle.std.specs.Io.KnownBytes.{Appends}
 use Rattle.std.specs.Str.{bytes_eq}
 use Rattle.fusion_cli.specs.declared.status.Status.{Status}
 use Rattle.fusion_cli.specs.declared.status.Status.TheVariants.{Done, NoMemory, Usage, BadScan, ReadFault, WriteFault}
 use Rattle.fusion_cli.specs.declared.run.Stop.{Stop}
 use Rattle.fusion_cli.specs.declared.run.Stop.TheVariants as stops
+use Rattle.scan_io.specs.Causes.{Rose}
+use Rattle.scan_io.specs.Coming.{Grows, LosesFront}
+use Rattle.scan_io.specs.Reading.{StaysKnown}
 use Rattle.scan_lang.specs.declared.error.ScanError.{ScanError}
 use Rattle.scan_lang.specs.declared.error.ScanError.TheVariants as errors
-use Rattle.scan_lang.specs.Places.{short}
+use Rattle.scan_lang.specs.Offsets.{short}
 use Rattle.scan_lang.specs.Scan.{Ending, complete, refused}
 use Rattle.session.specs.Output.{output_of, all_bytes, first_bytes}
-use Rattle.scan_io.specs.Reading.{StaysKnown}
 
 -- the one word of the command
 abbrev pub is_fuse : List (List ℕ) → Bool
@@ -19,16 +21,25 @@ is_fuse [] = false
 is_fuse (word ∷ []) = bytes_eq word (codes "fuse")
 is_fuse (word ∷ other ∷ more) = false
 
+-- ---- the bytes written
+
 -- the text ends too early
 abbrev pub IsCutOff : Ending → Type 0
-IsCutOff ending = (place : ℕ) × (ending ≡ refused (short place))
+IsCutOff ending = (offset : ℕ) × (ending ≡ refused (short offset))
+
+-- what the source has given of the text ends with the scan's line `end`
+abbrev pub GivesEnd : (text : List ℕ) → (left : Option (List ℕ)) → Type 0
+GivesEnd text left = StaysKnown left (λ rest. (given : List ℕ) × (text ≡ given ++ rest) × ((output_of given).ending ≡ complete))
+
+-- what the source has given of the text ends inside an entry, and the sink took the replies to the entries before it, which are the first of the whole text
+abbrev pub GivesPart : (text : List ℕ) → (left old new : Option (List ℕ)) → Type 0
+GivesPart text left old new = StaysKnown left (λ rest. (given : List ℕ) × (text ≡ given ++ rest) × IsCutOff (output_of given).ending × ((n : ℕ) × ((output_of given).replies ≡ take n (output_of text).replies)) × Appends old new (all_bytes (output_of given)))
 
 -- From a source that told this text, with left what it has left, a sink went from old to new, and this is the status.
 abbrev pub Ran : (text : List ℕ) (left old new : Option (List ℕ)) → Status → Type 0
-Ran text left old new Done = ((output_of text).ending ≡ complete) × Appends old new (all_bytes (output_of text))
+Ran text left old new Done = GivesEnd text left × ((output_of text).ending ≡ complete) × Appends old new (all_bytes (output_of text))
 Ran text left old new (BadScan why) = ((output_of text).ending ≡ refused why) × Appends old new (all_bytes (output_of text))
--- the replies to just the entries whose bytes the source has given
-Ran text left old new ReadFault = StaysKnown left (λ rest. (given : List ℕ) × (text ≡ given ++ rest) × IsCutOff (output_of given).ending × Appends old new (all_bytes (output_of given)))
+Ran text left old new ReadFault = GivesPart text left old new
 Ran text left old new WriteFault = (n : ℕ) × Appends old new (take n (all_bytes (output_of text)))
 Ran text left old new NoMemory = (n : ℕ) × Appends old new (first_bytes n (output_of text))
 -- nothing is read and nothing is written
@@ -45,6 +56,49 @@ status_of (refused why) = BadScan why
 -- from a source that told its bytes, the status and all the bytes of the output
 abbrev pub IsWhole : (before old new : Option (List ℕ)) → Status → Type 0
 IsWhole before old new status = IfSome before (λ text. (status ≡ status_of (output_of text).ending) × Appends old new (all_bytes (output_of text)))
+
+-- ---- the counts of faults
+
+-- a count never falls; it rose where it is of the fault that ended the run
+pub record IsRisen (before now : ℕ) : Type 0 where
+  pub later : before ≤ now
+  pub rose : Rose before now
+
+-- the source's count rose where the run ended with a read fault, and is as before where it ended otherwise
+abbrev pub CountsReads : (before now : ℕ) → Status → Type 0
+CountsReads before now Done = now ≡ before
+CountsReads before now NoMemory = now ≡ before
+CountsReads before now Usage = now ≡ before
+CountsReads before now (BadScan why) = now ≡ before
+CountsReads before now ReadFault = IsRisen before now
+CountsReads before now WriteFault = now ≡ before
+
+-- the sink's count rose where the run ended with a write fault, and is as before where it ended otherwise
+abbrev pub CountsWrites : (before now : ℕ) → Status → Type 0
+CountsWrites before now Done = now ≡ before
+CountsWrites before now NoMemory = now ≡ before
+CountsWrites before now Usage = now ≡ before
+CountsWrites before now (BadScan why) = now ≡ before
+CountsWrites before now ReadFault = now ≡ before
+CountsWrites before now WriteFault = IsRisen before now
+
+-- ---- the whole of a run
+
+-- what a source or a sink tells, and how often it failed
+pub record Told : Type 0 where
+  pub bytes : Option (List ℕ)
+  pub faults : ℕ
+
+abbrev pub told : Option (List ℕ) → ℕ → Told
+told bytes faults = record { bytes = bytes; faults = faults }
+
+-- a run with this status, over a source and a sink
+pub record IsRun (source left sink grown : Told) (status : Status) : Type 0 where
+  pub answer : Answers source.bytes left.bytes sink.bytes grown.bytes status
+  pub front : LosesFront source.bytes left.bytes
+  pub grows : Grows sink.bytes grown.bytes
+  pub reads : CountsReads source.faults left.faults status
+  pub writes : CountsWrites sink.faults grown.faults status
 
 -- the status of a run
 abbrev pub ended : Result ⊤ Stop → Status

@@ -1,10 +1,11 @@
-ghost use Rattle.std.specs.Prelude.{◌≡◌, ◌≤◌, ◌⊎◌, ◌↔◌, true, false, map, string_bytes, ℕ, take, OnOk, OnErr, IfOk, IfErr, IsErrOf};
+ghost use Rattle.std.specs.Prelude.{◌≡◌, ◌⊎◌, ◌↔◌, true, false, map, string_bytes, ℕ, take, OnOk, OnErr, IfOk, IfErr};
 ghost use Rattle.std.specs.Io.KnownBytes.{Appends};
 ghost use Rattle.scan_io.specs.Causes.{Rose, HasCause};
+ghost use Rattle.scan_io.specs.Coming.{Grows, LosesFront};
 ghost use Rattle.session.specs.Answers.{state_of};
 ghost use Rattle.session.specs.Fold.{after, refusal_reply, reply_to};
 ghost use Rattle.scan_lang.specs.declared.entry.Entry.TheVariants as entries;
-ghost use Rattle.fusion_cli.specs.Run.{is_fuse as is_fuse_command, Answers, IsWhole, ended, stop_of};
+ghost use Rattle.fusion_cli.specs.Run.{is_fuse as is_fuse_command, Answers, CountsReads, CountsWrites, IsRun, IsWhole, ended, stop_of, told};
 ghost use Rattle.fusion_cli.specs.declared.run.Stop.TheVariants.{NoMemory as no_memory};
 
 use crate::status::Status;
@@ -17,7 +18,7 @@ use session::{ReadError, Session};
 use std::alloc::Global;
 use voxel_block::NoMemory;
 
-/// A scan has at most so many lines, and each record has one of its own.
+/// The greatest number of lines of a scan; each record has one of its own.
 const RECORDS_LIMIT: u32 = 1_000_000;
 
 /// Why a run stops before the end of the scan.
@@ -57,7 +58,8 @@ impl From<ScanError> for Stop {
     }
 }
 
-/// Does the command of the words, over this source and this sink.
+/// Runs the command that the words are, over a source and a sink: `fuse` reads a scan from the source, acts on its
+/// records in order, and writes the reply to each to the sink before it acts on the next.
 pub fn run_fusion<S: Source, K: Sink>(
     alloc: Global,
     words: &[String],
@@ -70,14 +72,14 @@ pub fn run_fusion<S: Source, K: Sink>(
     // When each refusal comes.
     ensures usage { (result ≡ Status.Usage) ↔ (is_fuse_command (map string_bytes words.now) ≡ false) }
     ensures untouched { result ≡ Status.Usage → (source.new ≡ source.old) × (sink.new ≡ sink.old) }
-    ensures read { result ≡ Status.ReadFault → Rose (S.faults source.old) (S.faults source.new) }
-    ensures write { result ≡ Status.WriteFault → Rose (K.faults sink.old) (K.faults sink.new) }
+    ensures reads { CountsReads (S.faults source.old) (S.faults source.new) result }
+    ensures writes { CountsWrites (K.faults sink.old) (K.faults sink.new) result }
 
-    // The counts never fall.
-    ensures read_later { S.faults source.old ≤ S.faults source.new }
-    ensures write_later { K.faults sink.old ≤ K.faults sink.new }
+    // Whatever the status, the source lost a front, the sink gained bytes, and what told its bytes goes on telling them.
+    ensures front { LosesFront (S.left source.old) (S.left source.new) }
+    ensures grows { Grows (K.written sink.old) (K.written sink.new) }
 
-    // Where no count rose, all of it is written, unless memory runs out.
+    // Where no count rose, all of it is written, unless it is out of memory.
     ensures complete { is_fuse_command (map string_bytes words.now) ≡ true
         → ¬ Rose (S.faults source.old) (S.faults source.new)
         → ¬ Rose (K.faults sink.old) (K.faults sink.new)
@@ -86,7 +88,14 @@ pub fn run_fusion<S: Source, K: Sink>(
     if !is_fuse(words) {
         return Status::Usage;
     }
-    match run_scan(alloc, source, sink) {
+    status_of(run_scan(alloc, source, sink))
+}
+
+/// The status of a run.
+fn status_of(run: Result<(), Stop>) -> Status
+    ensures { result ≡ ended run }
+{
+    match run {
         Ok(()) => Status::Done,
         Err(Stop::NoMemory) => Status::NoMemory,
         Err(Stop::BadScan(why)) => Status::BadScan(why),
@@ -95,6 +104,7 @@ pub fn run_fusion<S: Source, K: Sink>(
     }
 }
 
+/// Whether the words are the one word `fuse`.
 fn is_fuse(words: &[String]) -> bool
     ensures { result ≡ is_fuse_command (map string_bytes words.now) }
 {
@@ -104,12 +114,10 @@ fn is_fuse(words: &[String]) -> bool
     }
 }
 
+/// Acts on the records of a scan in order, and writes the reply to each.
 fn run_scan<S: Source, K: Sink>(alloc: Global, source: &mut S, sink: &mut K) -> Result<(), Stop>
-    ensures answer { Answers (S.left source.old) (S.left source.new) (K.written sink.old) (K.written sink.new) (ended result) }
-    ensures read_later { S.faults source.old ≤ S.faults source.new }
-    ensures write_later { K.faults sink.old ≤ K.faults sink.new }
-    ensures read { IsErrOf result Stop.ReadFault → Rose (S.faults source.old) (S.faults source.new) }
-    ensures write { IsErrOf result Stop.WriteFault → Rose (K.faults sink.old) (K.faults sink.new) }
+    ensures { IsRun (told (S.left source.old) (S.faults source.old)) (told (S.left source.new) (S.faults source.new))
+        (told (K.written sink.old) (K.faults sink.old)) (told (K.written sink.new) (K.faults sink.new)) (ended result) }
 {
     let (config, mut reader) = ScanReader::begin(alloc, source)?;
     let mut session = Session::start(alloc, config)?;
@@ -123,7 +131,7 @@ fn run_scan<S: Source, K: Sink>(alloc: Global, source: &mut S, sink: &mut K) -> 
             return Ok(());
         }
     }
-    // It does not come here: the reader gives no more records than a scan may have lines.
+    // Unreachable: the reader gives no more records than a scan may have lines.
     Ok(())
 }
 
@@ -178,9 +186,11 @@ fn refused(why: Refusal) -> Reply
     }
 }
 
+/// Writes the bytes of a reply.
 fn put_reply<K: Sink>(sink: &mut K, reply: &[u8]) -> Result<(), Stop>
     ensures all { OnOk result (Appends (K.written sink.old) (K.written sink.new) reply.now) }
     ensures front { OnErr result ((n : ℕ) × Appends (K.written sink.old) (K.written sink.new) (take n reply.now)) }
+    ensures grows { Grows (K.written sink.old) (K.written sink.new) }
     ensures error { IfErr result (λ e. e ≡ Stop.WriteFault) }
     ensures cause { HasCause (K.faults sink.old) (K.faults sink.new) result }
 {

@@ -1,5 +1,5 @@
 ghost use Rattle.std.specs.Prelude.{◌≡◌, string_bytes, IfOk};
-ghost use Rattle.fusion_cli.specs.Status.{text_of, refused_text, place_text as text_at, what_text as text_of_what, config_text as text_of_config, pgm_text as text_of_pgm};
+ghost use Rattle.fusion_cli.specs.Status.{text_of, refused_text, offset_text as text_at, what_text as text_of_what, config_text as text_of_config, pgm_text as text_of_pgm};
 
 use depth_frame::PgmKind;
 use scan_lang::{BadConfig, BadScan, BadWhat};
@@ -9,13 +9,13 @@ use voxel_block::NoMemory;
 /// How a run ended.
 #[derive(Clone, Copy, Debug, PartialEq, Eq)]
 pub enum Status {
-    /// All of the scan was read and answered, up to its record `end`.
+    /// The whole scan was read and answered, up to its record `end`.
     Done,
-    /// Memory was wanting.
+    /// Out of memory.
     NoMemory,
     /// The words are no command.
     Usage,
-    /// The scan is refused, and all that stands before the refused record was answered.
+    /// The scan is refused; the records before the refused one were answered.
     BadScan(BadScan),
     /// The source failed.
     ReadFault,
@@ -67,12 +67,12 @@ fn written(alloc: Global, status: &Status) -> Result<String, AllocError>
 fn refused_line(alloc: Global, why: BadScan) -> Result<String, AllocError>
     ensures { IfOk result (λ s. string_bytes s ≡ refused_text why) }
 {
-    let mut line = place_text(alloc, why.at)?;
+    let mut line = offset_text(alloc, why.at)?;
     line.push_str(what_text(alloc, why.what)?.as_str())?;
     Ok(line)
 }
 
-fn place_text(alloc: Global, at: u64) -> Result<String, AllocError>
+fn offset_text(alloc: Global, at: u64) -> Result<String, AllocError>
     ensures { IfOk result (λ s. string_bytes s ≡ text_at at) }
 {
     format!(in alloc; "fusion: scan refused at byte {at}: ")

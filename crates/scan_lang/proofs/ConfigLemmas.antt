@@ -1,6 +1,6 @@
 -- What the tests of a configuration show.
 use Rattle.std.proofs.Common.{◌≡◌, ℕ, suc, ◌+◌, ◌≤◌, List, [], ◌∷◌, length, Bool, true, false, Some, None, Ok, Err, refl, ap, cond, arith, rules}
-use Rattle.std.specs.Prelude.{String, ℤ, pos, int_le, ◌≤ℤ◌, is_some, unsigned_abs}
+use Rattle.std.specs.Prelude.{String, ℤ, pos, ◌≤ℤ◌, is_some, unsigned_abs}
 use Rattle.std.specs.declared.alloc.Global.{Global}
 use Rattle.std.specs.Str.{IsUtf8, is_utf8}
 use Rattle.std.proofs.lemmas.Int.{ints}
@@ -17,6 +17,7 @@ use Rattle.serde_json.specs.declared.value.Value.{Value}
 use Rattle.scan_io.specs.Reading.{turned}
 use Rattle.camera.specs.declared.camera.CameraFields.{CameraFields}
 use Rattle.camera.specs.Cameras.{within, IsCamera}
+use Rattle.camera.proofs.RangeLemmas.{between}
 use Rattle.camera.specs.Opening.{camera_of}
 use Rattle.scan_lang.specs.declared.config.BadConfig.{BadConfig}
 use Rattle.scan_lang.specs.declared.config.BadConfig.TheVariants.{Json}
@@ -55,12 +56,6 @@ unfolding AllHold
 all_hold n [] h = tt
 all_hold n (true ∷ tests) h = (refl, all_hold (n + 1) tests h)
 all_hold n (false ∷ tests) h = absurd cc
-
-is_at_most : (a b : ℤ) → int_le a b ≡ true → a ≤ℤ b
-is_at_most a b h = grind (arith, ints)
-
-between : (low high z : ℤ) → within low high z ≡ true → (low ≤ℤ z) × (z ≤ℤ high)
-between low high z h = let p = and_parts (int_le low z) (int_le z high) h in (is_at_most low z p.0, is_at_most z high p.1)
 
 size_between : (low high : ℕ) (z : ℤ) → within (pos low) (pos high) z ≡ true → (low ≤ unsigned_abs z) × (unsigned_abs z ≤ high)
 size_between low high z h = let p = between (pos low) (pos high) z h in (omega (arith, ints), omega (arith, ints))
