@@ -1,4 +1,6 @@
 use super::*;
+use crate::BadConfig::{Field, Json, Names, Reach, Sphere};
+use crate::BadWhat::{Line, Lines, Long, Number, Short};
 use camera::CameraFields;
 use depth_frame::PgmKind;
 use fixed_geom::Vec3;
@@ -8,6 +10,9 @@ use std::test::Fail;
 
 const BASE: &str =
     "{\"version\":1,\"width\":1,\"height\":1,\"fx\":65536,\"fy\":65536,\"cx\":0,\"cy\":0,\"unit\":1000,\"near\":500000,\"far\":2000000,\"voxel\":10000,\"mu\":40000,\"max_weight\":255,\"radius\":2100000,\"centre\":1020000,\"heap_blocks\":64,\"buckets\":16,\"empty_f\":30000}";
+
+// The line of a frame, after the first line.
+const FRAME: &[u8] = b"\nframe 1 0 0 0 0 1 0 0 0 0 1 0\n";
 
 // What a test compares of a record: of a frame its rows and its first sample.
 #[derive(Clone, Copy, Debug, PartialEq, Eq)]
@@ -106,123 +111,80 @@ fn records_are_read_in_pieces(rt: HostRuntime) -> Result<(), Fail> {
     Ok(())
 }
 
+// Whether the text, in pieces of any size, is refused so.
+fn is_refused(alloc: Global, text: &[u8], at: u64, what: BadWhat) -> Result<bool, Fail> {
+    let bad = Some(ScanError::Bad(BadScan { at, what }));
+    Ok(
+        records(alloc, text, 1, 9_999_999)?.err() == bad
+            && records(alloc, text, 4096, 9_999_999)?.err() == bad,
+    )
+}
+
 #[test]
-fn a_bad_scan_is_refused_at_its_offset(rt: HostRuntime) -> Result<(), Fail> {
+fn a_bad_first_line_is_refused_at_its_offset(rt: HostRuntime) -> Result<(), Fail> {
     let alloc = rt.alloc();
-    let same = ("{", "{");
-    let cases: [(&str, (&str, &str), &[u8], u64, BadWhat); 20] = [
-        ("no line", (BASE, ""), b"", 0, BadWhat::Short),
-        (
-            "a configuration without a line feed",
-            same,
-            b"",
-            232,
-            BadWhat::Short,
-        ),
-        ("no record", same, b"\n", 233, BadWhat::Short),
-        (
-            "a configuration that is an array",
-            (BASE, "[]"),
-            b"\n",
-            0,
-            BadWhat::Config(BadConfig::Json),
-        ),
-        (
-            "an empty configuration",
-            (BASE, ""),
-            b"\nend\n",
-            0,
-            BadWhat::Config(BadConfig::Json),
-        ),
-        ("an unknown word", same, b"\nframes 1\n", 233, BadWhat::Line),
-        ("a word too many", same, b"\nend now\n", 233, BadWhat::Line),
-        (
-            "an unknown word after lines without words",
-            same,
-            b"\n\n \n\rsums\n",
-            236,
-            BadWhat::Line,
-        ),
-        (
-            "a word that is no number",
-            same,
-            b"\nframe 1 0 x 0 0 1 0 0 0 0 1 0\n",
-            243,
-            BadWhat::Number,
-        ),
-        (
-            "a number out of range",
-            same,
-            b"\nframe  1 0 0 0 0 1 0 0 0 0 1 1e4\t\n",
-            262,
-            BadWhat::Number,
-        ),
-        (
-            "eleven words",
-            same,
-            b"\nframe 1 0 x 0 0 1 0 0 0 0 1\n",
-            233,
-            BadWhat::Line,
-        ),
-        (
-            "thirteen words",
-            same,
-            b"\nframe 1 0 x 0 0 1 0 0 0 0 1 0 0\n",
-            233,
-            BadWhat::Line,
-        ),
-        (
-            "a text PGM",
-            same,
-            b"\nframe 1 0 0 0 0 1 0 0 0 0 1 0\nP6\n",
-            263,
-            BadWhat::Pgm(PgmKind::Magic),
-        ),
-        (
-            "no gap after the magic",
-            same,
-            b"\nframe 1 0 0 0 0 1 0 0 0 0 1 0\nP5x",
-            265,
-            BadWhat::Pgm(PgmKind::Header),
-        ),
-        (
-            "half a sample",
-            same,
-            b"\nframe 1 0 0 0 0 1 0 0 0 0 1 0\nP5\n1 1\n65535\n\x03",
-            277,
-            BadWhat::Short,
-        ),
-        (
-            "nothing after a depth map",
-            same,
-            b"\nframe 1 0 0 0 0 1 0 0 0 0 1 0\nP5\n1 1\n65535\n\x03\xE8",
-            278,
-            BadWhat::Short,
-        ),
-        (
-            "an unknown word after a depth map",
-            same,
-            b"\nframe 1 0 0 0 0 1 0 0 0 0 1 0\nP5\n1 1\n65535\n\x03\xE8no\n",
-            278,
-            BadWhat::Line,
-        ),
-        (
-            "a record without a line feed",
-            same,
-            b"\nvoxels",
-            239,
-            BadWhat::Short,
-        ),
-        ("a word after sum", same, b"\nsum 1\n", 233, BadWhat::Line),
-        ("a sign alone", same, b"\n+\n", 233, BadWhat::Line),
+    let json = BadWhat::Config(Json);
+    let cases: [(&str, (&str, &str), &[u8], u64, BadWhat); 5] = [
+        ("no byte", (BASE, ""), b"", 0, Short),
+        ("no line feed", ("{", "{"), b"", 232, Short),
+        ("no record", ("{", "{"), b"\n", 233, Short),
+        ("an array", (BASE, "[]"), b"\n", 0, json),
+        ("an empty line", (BASE, ""), b"\nend\n", 0, json),
     ];
     for (name, change, rest, at, what) in cases {
         let text = scan(alloc, change, rest, 0, b' ')?;
-        for piece in [1, 4096] {
-            let found = records(alloc, &text, piece, 9999)?;
-            let bad = ScanError::Bad(BadScan { at, what });
-            assert_eq!(rt; found.err(), Some(bad), "{name} by {piece}");
-        }
+        assert!(rt; is_refused(alloc, &text, at, what)?, "{name}");
+    }
+    Ok(())
+}
+
+#[test]
+fn a_bad_record_is_refused_at_its_offset(rt: HostRuntime) -> Result<(), Fail> {
+    let alloc = rt.alloc();
+    let (magic, header) = (BadWhat::Pgm(PgmKind::Magic), BadWhat::Pgm(PgmKind::Header));
+    let cases: [(&str, &[u8], u64, BadWhat); 10] = [
+        ("an unknown word", b"frames 1\n", 233, Line),
+        ("after blank lines", b"\n \n\rsums\n", 236, Line),
+        ("a word after end", b"end now\n", 233, Line),
+        ("a word after sum", b"sum 1\n", 233, Line),
+        ("a sign alone", b"+\n", 233, Line),
+        ("no line feed", b"voxels", 239, Short),
+        ("eleven words", b"frame 1 0 x 0 0 1 0 0 0 0 1\n", 233, Line),
+        ("thirteen", b"frame 1 0 x 0 0 1 0 0 0 0 1 0 0\n", 233, Line),
+        ("no number", b"frame 1 0 x 0 0 1 0 0 0 0 1 0\n", 243, Number),
+        (
+            "range",
+            b"frame  1 0 0 0 0 1 0 0 0 0 1 1e4\t\n",
+            262,
+            Number,
+        ),
+    ];
+    for (name, rest, at, what) in cases {
+        let mut text = scan(alloc, ("{", "{"), b"\n", 0, b' ')?;
+        text.extend_from_slice(rest)?;
+        assert!(rt; is_refused(alloc, &text, at, what)?, "{name}");
+    }
+    let cases: [(&str, &[u8], u64, BadWhat); 5] = [
+        ("the other form", b"P6\n", 263, magic),
+        ("no gap", b"P5x", 265, header),
+        ("half a sample", b"P5\n1 1\n65535\n\x03", 277, Short),
+        (
+            "no record after it",
+            b"P5\n1 1\n65535\n\x03\xE8",
+            278,
+            Short,
+        ),
+        (
+            "an unknown word",
+            b"P5\n1 1\n65535\n\x03\xE8no\n",
+            278,
+            Line,
+        ),
+    ];
+    for (name, rest, at, what) in cases {
+        let mut text = scan(alloc, ("{", "{"), FRAME, 0, b' ')?;
+        text.extend_from_slice(rest)?;
+        assert!(rt; is_refused(alloc, &text, at, what)?, "{name} in a frame");
     }
     Ok(())
 }
@@ -230,8 +192,9 @@ fn a_bad_scan_is_refused_at_its_offset(rt: HostRuntime) -> Result<(), Fail> {
 #[test]
 fn a_source_that_fails_inside_a_depth_map_is_a_read_fault(rt: HostRuntime) -> Result<(), Fail> {
     let alloc = rt.alloc();
-    let rest = b"\nframe 1 0 0 0 0 1 0 0 0 0 1 0\nP5\n48 48\n65535\n";
-    let mut text = scan(alloc, ("{", "{"), rest, 4886, 3)?;
+    let mut text = scan(alloc, ("{", "{"), FRAME, 0, b' ')?;
+    text.extend_from_slice(b"P5\n48 48\n65535\n")?;
+    text.resize(4886, 3)?;
     text.extend_from_slice(b"end\n")?;
     let cases = [
         ("before its first byte", 1, 263),
@@ -245,17 +208,10 @@ fn a_source_that_fails_inside_a_depth_map_is_a_read_fault(rt: HostRuntime) -> Re
     ];
     for (name, piece, failing) in cases {
         let found = records(alloc, &text, piece, failing)?;
-        assert_eq!(rt;
-            found.err(),
-            Some(ScanError::ReadFault),
-            "{name} by {piece}"
-        );
-        let found = records(alloc, &text, piece, 9999)?;
-        assert_eq!(rt;
-            found.ok().map(|all| all.len()),
-            Some(2),
-            "whole by {piece}"
-        );
+        let fault = Some(ScanError::ReadFault);
+        assert_eq!(rt; found.err(), fault, "{name} by {piece}");
+        let whole = records(alloc, &text, piece, 9999)?;
+        assert_eq!(rt; whole.ok().map(|all| all.len()), Some(2));
     }
     Ok(())
 }
@@ -264,53 +220,23 @@ fn a_source_that_fails_inside_a_depth_map_is_a_read_fault(rt: HostRuntime) -> Re
 fn lines_have_their_limits(rt: HostRuntime) -> Result<(), Fail> {
     let alloc = rt.alloc();
     let same = ("{", "{");
-    let cases: [(&str, &[u8], usize, u8, Option<(u64, BadWhat)>); 6] = [
-        (
-            "a configuration of 4097 bytes",
-            b"",
-            4097,
-            b' ',
-            Some((4096, BadWhat::Long)),
-        ),
-        (
-            "a text of 4096 bytes",
-            b"",
-            4096,
-            b' ',
-            Some((4096, BadWhat::Short)),
-        ),
-        (
-            "a line of 1025 bytes",
-            b"\nvoxels",
-            1258,
-            b'x',
-            Some((1257, BadWhat::Long)),
-        ),
-        (
-            "a last line of 1024 bytes",
-            b"\n",
-            1257,
-            b'\r',
-            Some((1257, BadWhat::Short)),
-        ),
-        ("1000000 lines", b"", 1_000_231, b'\n', None),
-        (
-            "1000001 lines",
-            b"",
-            1_000_232,
-            b'\n',
-            Some((1_000_232, BadWhat::Lines)),
-        ),
+    let cases: [(&str, &[u8], usize, u8, u64, BadWhat); 5] = [
+        ("a configuration", b"", 4097, b' ', 4096, Long),
+        ("no configuration", b"", 4096, b' ', 4096, Short),
+        ("a line", b"\nvoxels", 1258, b'x', 1257, Long),
+        ("no line", b"\n", 1257, b'\r', 1257, Short),
+        ("the lines", b"", 1_000_232, b'\n', 1_000_232, Lines),
     ];
-    for (name, rest, len, fill, refused) in cases {
+    for (name, rest, len, fill, at, what) in cases {
         let mut text = scan(alloc, same, rest, len, fill)?;
         if fill == b'\n' {
             text.extend_from_slice(b"end\n")?;
         }
-        let bad = refused.map(|(at, what)| ScanError::Bad(BadScan { at, what }));
-        let found = records(alloc, &text, 4096, 9999)?;
-        assert_eq!(rt; found.err(), bad, "{name}");
+        assert!(rt; is_refused(alloc, &text, at, what)?, "{name}");
     }
+    let mut text = scan(alloc, same, b"", 1_000_231, b'\n')?;
+    text.extend_from_slice(b"end\n")?;
+    assert!(rt; records(alloc, &text, 4096, 9999)?.is_ok(), "1000000 lines");
     let mut text = scan(alloc, same, b"", 4096, b' ')?;
     text.extend_from_slice(b"\nvoxels")?;
     text.resize(4097 + 1024, b' ')?;
@@ -337,110 +263,42 @@ fn a_configuration_is_accepted_or_refused(rt: HostRuntime) -> Result<(), Fail> {
     let same = ("{", "{");
     let sphere = ("2100000", "2016108");
     let reach = ("\"fx\":65536", "\"fx\":1");
+    let weight = ("255", "0");
+    let version = ("\"version\":1", "\"version\":2");
+    let twice = ("\"version\":1", "\"version\":2,\"version\":1");
+    let long = ("30000", "9223372036854775808");
+    let column = ("\"cx\":0", "\"cx\":65537");
+    let buckets = ("\"buckets\":16", "\"buckets\":12");
     let cases = [
         ("the least radius", ("2100000", "2016109"), same, None),
+        ("a name twice", twice, same, None),
+        ("no JSON", (BASE, "{"), same, Some(Json)),
+        ("an empty object", (BASE, "{}"), same, Some(Names)),
+        ("a missing name", ("\"cx\":0,", ""), same, Some(Names)),
+        ("an unknown name", ("{", "{\"cz\":0,"), same, Some(Names)),
+        ("a text", ("1000,", "\"1000\","), same, Some(Field(8))),
+        ("a fraction", ("10000,", "1.0,"), same, Some(Field(11))),
+        ("form before range", long, version, Some(Field(18))),
+        ("version before width", version, column, Some(Field(1))),
+        ("column before weight", column, weight, Some(Field(6))),
+        ("a small voxel", ("10000,", "999,"), same, Some(Field(11))),
+        ("reach before sphere", reach, sphere, Some(Reach)),
+        ("reach before weight", reach, weight, Some(Reach)),
+        ("sphere before weight", sphere, weight, Some(Sphere)),
         (
-            "a name twice",
-            ("\"version\":1", "\"version\":2,\"version\":1"),
-            same,
-            None,
-        ),
-        ("no JSON", (BASE, "{"), same, Some(BadConfig::Json)),
-        (
-            "an empty object",
-            (BASE, "{}"),
-            same,
-            Some(BadConfig::Names),
-        ),
-        (
-            "a missing name",
-            ("\"cx\":0,", ""),
-            same,
-            Some(BadConfig::Names),
-        ),
-        (
-            "a name too many",
-            ("{", "{\"cz\":0,"),
-            same,
-            Some(BadConfig::Names),
-        ),
-        (
-            "a text",
-            ("1000,", "\"1000\","),
-            same,
-            Some(BadConfig::Field(8)),
-        ),
-        (
-            "a fraction",
-            ("10000,", "1.0,"),
-            same,
-            Some(BadConfig::Field(11)),
-        ),
-        (
-            "no number of 64 bits, before any range",
-            ("30000", "9223372036854775808"),
-            ("\"version\":1", "\"version\":2"),
-            Some(BadConfig::Field(18)),
-        ),
-        (
-            "the version before the width",
-            ("\"version\":1", "\"version\":2"),
-            ("\"width\":1", "\"width\":0"),
-            Some(BadConfig::Field(1)),
-        ),
-        (
-            "the camera before the weight",
-            ("\"cx\":0", "\"cx\":65537"),
-            ("255", "0"),
-            Some(BadConfig::Field(6)),
-        ),
-        (
-            "a voxel too small",
-            ("10000,", "999,"),
-            same,
-            Some(BadConfig::Field(11)),
-        ),
-        (
-            "the reach before the sphere",
-            reach,
-            sphere,
-            Some(BadConfig::Reach),
-        ),
-        (
-            "the reach before the weight",
-            reach,
-            ("255", "0"),
-            Some(BadConfig::Reach),
-        ),
-        (
-            "the sphere before the weight",
-            sphere,
-            ("255", "0"),
-            Some(BadConfig::Sphere),
-        ),
-        (
-            "the weight before the blocks",
-            ("255", "256"),
+            "weight before blocks",
+            weight,
             ("64,", "0,"),
-            Some(BadConfig::Field(15)),
+            Some(Field(15)),
         ),
+        ("a great weight", ("255", "256"), same, Some(Field(15))),
+        ("many blocks", ("64,", "65537,"), same, Some(Field(16))),
+        ("no power of two", buckets, ("30000", "-1"), Some(Field(17))),
         (
-            "too many blocks",
-            ("64,", "65537,"),
-            same,
-            Some(BadConfig::Field(16)),
-        ),
-        (
-            "no power of two, before the last field",
-            ("\"buckets\":16", "\"buckets\":12"),
-            ("30000", "-1"),
-            Some(BadConfig::Field(17)),
-        ),
-        (
-            "a distance too great",
+            "a great distance",
             ("30000", "32768"),
             same,
-            Some(BadConfig::Field(18)),
+            Some(Field(18)),
         ),
     ];
     for (name, first, second, refused) in cases {
@@ -494,7 +352,7 @@ fn the_base_line_is_a_configuration(rt: HostRuntime) -> Result<(), Fail> {
 
 #[test]
 fn refusals_have_words(rt: HostRuntime) -> Result<(), Fail> {
-    let config = BadWhat::Config(BadConfig::Field(13));
+    let config = BadWhat::Config(Field(13));
     let bad = ScanError::Bad(BadScan {
         at: 0,
         what: config,
