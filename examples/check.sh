@@ -2,6 +2,7 @@
 # check.sh [PROGRAM]   runs the built program as a user does, and each script once: the words of its command, its exit status, and both
 # its streams, byte for byte. Prints a line for each case, and succeeds where all passed. It takes less than a minute.
 set -u
+export PYTHONDONTWRITEBYTECODE=1
 here=$(cd "$(dirname "${BASH_SOURCE[0]}")" && pwd)
 program=${1:-$here/../crates/fusion_cli/out/fusion_cli}
 [ -x "$program" ] && [ -f "$program" ] || { echo "check.sh: $program is no program: build it by 'rt ci', or by 'rt run' in crates/fusion_cli" >&2; exit 2; }
@@ -109,24 +110,38 @@ refuses 'make_config.py refuses a camera that reaches too far' "$here/make_confi
 refuses 'make_config.py asks for its words' "$here/make_config.py"
 
 mkdir -p "$t/recording/depth"
-python3 - "$here" "$t/recording" <<'END'
-import sys
-sys.path.insert(0, sys.argv[1])
-import png
+python3 - "$t" <<'END'
+import struct, sys, zlib
 for n in range(3):
-    samples = b"".join((5000 + 20 * u + 30 * v + 10 * n).to_bytes(2, "big") for v in range(3) for u in range(4))
-    with open("%s/depth/%d.png" % (sys.argv[2], n), "wb") as file:
-        file.write(png.write_grey16(4, 3, samples))
+    # four by five pixels, each row under another one of the five filters of PNG
+    rows = [b"".join((5000 + 200 * u + 300 * v + 10 * n).to_bytes(2, "big") for u in range(4)) for v in range(5)]
+    packed, above = b"", bytes(8)
+    for kind, row in enumerate(rows):
+        packed += bytes([kind])
+        for i in range(8):
+            left, corner = (row[i - 2], above[i - 2]) if i > 1 else (0, 0)
+            by = lambda p: abs(left + above[i] - corner - p)
+            packed += bytes([row[i] - (0, left, above[i], (left + above[i]) // 2, min((left, above[i], corner), key=by))[kind] & 255])
+        above = row
+    def chunk(name, body):
+        return struct.pack(">I", len(body)) + name + body + struct.pack(">I", zlib.crc32(name + body))
+    with open("%s/recording/depth/%d.png" % (sys.argv[1], n), "wb") as file:
+        file.write(b"\x89PNG\r\n\x1a\n" + chunk(b"IHDR", struct.pack(">IIBBBBB", 4, 5, 16, 0, 0, 0, 0))
+                   + chunk(b"IDAT", zlib.compress(packed)) + chunk(b"IEND", b""))
+    if n == 0:
+        with open(sys.argv[1] + "/raster", "wb") as file:
+            file.write(b"".join(rows))
 END
 printf '# time file\n%s depth/0.png\n%s depth/1.png\n%s depth/2.png\n' 1.00 1.03 9.00 >"$t/recording/depth.txt"
-printf '# time tx ty tz qx qy qz qw\n%s 0 0 0 0 0 0 1\n%s 0.01 0 0 0.0087 0.1736 0.0123 0.9847\n' 1.001 1.025 >"$t/recording/groundtruth.txt"
-python3 "$here/make_config.py" --size 4 3 --focal 20 20 --axis 1.5 1 --range 0.5 2 --voxel 0.02 --unit 200 >"$t/config"
+printf '# time tx ty tz qx qy qz qw\n%s 0 0 0 0 0 0 1\n%s 0.01 0 0 0.01 0.17 0.01 0.98\n' 1.001 1.025 >"$t/recording/groundtruth.txt"
+python3 "$here/make_config.py" --size 4 5 --focal 20 20 --axis 1.5 2 --range 0.5 2 --voxel 0.02 --unit 200 >"$t/config"
 python3 "$here/tum.py" "$t/recording" --config "$t/config" --ask voxels >"$t/tum.scan"
 evaluated 'tum.py makes a scan' "$t/tum.scan"
 grep -q '^frame 2 ' "$t/out" && ! grep -q -e refused -e '^frame 3 ' "$t/out"
 verdict 'a depth map without a pose is left out, and the others are fused' $?
-[ "$(python3 "$here/tum.py" "$t/recording" --config "$t/config" --frames 1 | grep -ac '^frame')" = 1 ]
-verdict 'tum.py stops after as many frames as are asked for' $?
+python3 "$here/tum.py" "$t/recording" --config "$t/config" --frames 1 >"$t/one.scan"
+[ "$(grep -ac '^frame' "$t/one.scan")" = 1 ] && tail -c 48 "$t/one.scan" | head -c 40 | cmp -s - "$t/raster"
+verdict 'tum.py gives as many frames as are asked for, and the samples of the PNG' $?
 refuses 'tum.py refuses a folder that is none' "$here/tum.py" "$t/nothing"
 refuses 'tum.py refuses depth maps of another size' "$here/tum.py" "$t/recording"
 head -c 60 "$t/recording/depth/0.png" >"$t/recording/depth/1.png"

@@ -197,7 +197,7 @@ def main():
     p.add_argument("--axis", choices=("x", "y", "z"), default="y", help="that the slice is across (y)")
     p.add_argument("--at", type=int, default=0, metavar="N", help="the slice's coordinate in voxels (0)")
     p.add_argument("--voxel", type=float, default=1.0, metavar="METRES", help="scale of the PLY (1: in voxels)")
-    p.add_argument("--look", type=float, nargs=3, default=(1.0, 0.7, 1.3), metavar=("X", "Y", "Z"), help="direction of the surface's view")
+    p.add_argument("--look", type=float, nargs=3, default=(0.9, 0.6, 1.0), metavar=("X", "Y", "Z"), help="direction of the surface's view")
     p.add_argument("--width", type=int, default=480, metavar="PIXELS", help="of the surface's picture (480)")
     a = p.parse_args()
     try:
