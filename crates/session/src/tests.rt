@@ -1,7 +1,12 @@
+ghost use Rattle.std.specs.Prelude.{◌≡◌, IfSome};
+ghost use Rattle.scan_lang.specs.declared.entry.Entry.TheVariants as entries;
+ghost use Rattle.session.specs.Answers.{state_of};
+ghost use Rattle.session.specs.Fold.{after, known_voxels};
+
 use super::*;
 use depth_frame::DepthFrame;
 use fixed_geom::{BadPose, PoseRows, Vec3};
-use scan_lang::{FrameDone, Totals, read_config};
+use scan_lang::{FrameDone, KnownVoxel, Totals, read_config};
 use std::alloc::Global;
 use std::test::Fail;
 
@@ -31,6 +36,24 @@ fn fuse(
     let t = Vec3 { x, y: 0, z: 0 };
     let depths = DepthFrame::make(width, 1, raw);
     Some(session.frame(alloc, &PoseRows { r, t }, depths))
+}
+
+/// Fuses a frame, and lists the known voxels of the map then; nothing where the frame is refused or memory runs out.
+fn fuse_and_list(
+    alloc: Global,
+    session: &mut Session,
+    rows: &PoseRows,
+    depths: DepthFrame,
+) -> Option<Vec<KnownVoxel>>
+    ensures { IfSome result (λ voxels. voxels.items ≡ known_voxels (after session.old.config (state_of session.old) (entries.Frame rows.now depths)).blocks) }
+{
+    match session.frame(alloc, rows, depths) {
+        Ok(_) => match session.voxels(alloc) {
+            Ok((_, voxels)) => Some(voxels),
+            Err(_) => None,
+        },
+        Err(_) => None,
+    }
 }
 
 fn done(frame: u64, blocks: u64, resident: u32) -> Result<FrameDone, FrameError> {
@@ -159,12 +182,21 @@ fn blocks_leave_the_heap_and_come_back(rt: HostRuntime) {
             let fused = fuse(alloc, &mut session, (AHEAD, x, 1, 1000));
             assert_eq!(rt; fused, Some(answer));
         }
+        let depths = vec![in alloc; 1000; 1]
+            .ok()
+            .map(|raw| DepthFrame::make(1, 1, raw));
+        assert!(rt; depths.is_some());
+        if let Some(depths) = depths {
+            let t = Vec3 { x: 0, y: 0, z: 0 };
+            let listed = fuse_and_list(alloc, &mut session, &PoseRows { r: AHEAD, t }, depths);
+            assert_eq!(rt; listed.map(|voxels| voxels.len()), Some(1152));
+        }
         assert_eq!(rt;
             session.totals(),
             Ok(Totals {
                 blocks: 4,
                 known: 1152,
-                weight: 1728,
+                weight: 2304,
                 distance: -384
             })
         );

@@ -1,0 +1,177 @@
+#!/usr/bin/env bash
+# check.sh [PROGRAM]   runs the built program as a user does, and each script once: the words of its command, its exit status, and both
+# its streams, byte for byte. Prints a line for each case, and succeeds where all passed. It takes less than a minute.
+set -u
+export PYTHONDONTWRITEBYTECODE=1
+here=$(cd "$(dirname "${BASH_SOURCE[0]}")" && pwd)
+program=${1:-$here/../crates/fusion_cli/out/fusion_cli}
+[ -x "$program" ] && [ -f "$program" ] || { echo "check.sh: $program is no program: build it by 'rt ci', or by 'rt run' in crates/fusion_cli" >&2; exit 2; }
+program=$(cd "$(dirname "$program")" && pwd)/$(basename "$program")
+t=$(mktemp -d) && trap 'rm -rf "$t"' EXIT
+passed=0 failed=0
+
+# verdict NAME STATUS   counts a case, which passed where the status is 0.
+verdict() {
+  if [ "$2" = 0 ]; then passed=$((passed + 1)); echo "ok      $1"; else failed=$((failed + 1)); echo "FAILED  $1"; fi
+}
+
+# compare NAME STATUS WANTED   a case whose run left its status, $t/out and $t/err; $t/want is what standard output has to be.
+compare() {
+  local bad=0
+  [ "$2" = "$3" ] || { bad=1; echo "        status $2, and $3 is wanted"; }
+  cmp -s "$t/out" "$t/want" || { bad=1; echo "        standard output: $(cmp "$t/out" "$t/want" 2>&1 | head -n 1)"; }
+  cmp -s "$t/err" "$t/wanterr" || { bad=1; echo "        standard error: $(head -c 200 "$t/err" | head -n 1)"; }
+  verdict "$1" "$bad"
+}
+
+# run NAME STATUS ERROR [WORD ..]   a run over standard input with these words; it has to write $t/want, and to end with the status and the line.
+run() {
+  local name=$1 status=$2 error=$3
+  shift 3
+  if [ -n "$error" ]; then printf '%s\n' "$error"; fi >"$t/wanterr"
+  timeout 60 "$program" "$@" >"$t/out" 2>"$t/err"
+  compare "$name" $? "$status"
+}
+
+# evaluated NAME SCAN   a run over a scan, which has to answer just what expected.py computes.
+evaluated() {
+  python3 "$here/expected.py" <"$2" >"$t/want" 2>"$t/wanterr"
+  local status=$?
+  timeout 60 "$program" fuse <"$2" >"$t/out" 2>"$t/err"
+  compare "$1" $? "$status"
+}
+
+# refuses NAME WORD ..   a script that has to end with status 2, with a sentence and no traceback.
+refuses() {
+  local name=$1 bad=0
+  shift
+  python3 "$@" >"$t/out" 2>"$t/err" </dev/null
+  [ $? = 2 ] && [ -s "$t/err" ] && ! grep -q Traceback "$t/err" || bad=1
+  verdict "$name" "$bad"
+}
+
+# The words of the command.
+: >"$t/want"
+usage='fusion: usage: fuse'
+run 'no words' 2 "$usage" <"$here/typed.scan"
+run 'a wrong word' 2 "$usage" fuze <"$here/typed.scan"
+run 'an empty word' 2 "$usage" '' <"$here/typed.scan"
+run 'a word too many' 2 "$usage" fuse fuse <"$here/typed.scan"
+run 'a word that is no UTF-8' 2 "$usage" $'fuse\xff' <"$here/typed.scan"
+run 'a second word that is no UTF-8' 2 "$usage" fuse $'\xff' <"$here/typed.scan"
+
+# The ways in which a run ends early.
+run 'an empty scan' 3 'fusion: scan refused at byte 0: short' fuse </dev/null
+run 'no configuration' 3 'fusion: scan refused at byte 0: config json' fuse <<<'frame'
+run 'a directory as input' 4 'fusion: read fault' fuse <"$t"
+if [ -e /dev/full ]; then
+  timeout 60 "$program" fuse <"$here/typed.scan" 2>"$t/err" >/dev/full
+  code=$?
+  : >"$t/out"; echo 'fusion: write fault' >"$t/wanterr"
+  compare 'a full device as output' "$code" 5
+fi
+head -c 600 "$here/typed.scan" >"$t/cut.scan"
+evaluated 'a scan that is cut off' "$t/cut.scan"
+{ head -n 5 "$here/typed.scan"; echo 'summ'; } >"$t/line.scan"
+evaluated 'a record that is none' "$t/line.scan"
+
+# A scan of more than 2 MB: a depth map in which only the last pixel shows a depth, then a record behind it.
+{
+  python3 "$here/make_config.py" --size 1050 1000 --focal 1000 1000 --axis 525 500 --range 0.5 2 --voxel 0.05
+  printf 'frame 1 0 0 0 0 1 0 0 0 0 1 0\nP5 1050 1000 65535\n'
+  head -c 2099998 /dev/zero
+  printf '\003\350sum\nvoxels\nend\n'
+} >"$t/large.scan"
+evaluated 'a scan of more than 2 MB' "$t/large.scan"
+
+# The examples.
+for scan in "$here"/*.scan; do
+  cp "${scan%.scan}.out" "$t/want"
+  run "the example $(basename "$scan")" 0 '' fuse <"$scan"
+done
+for name in typed wall turned; do
+  python3 "$here/expected.py" <"$here/$name.scan" | cmp -s - "$here/$name.out"
+  verdict "expected.py computes $name.out" $?
+done
+
+# Each script.
+python3 "$here/corner.py" | cmp -s - "$here/corner.scan"
+verdict 'corner.py prints corner.scan' $?
+base=(--size 1 1 --focal 1 1 --axis 0 0 --range 0.5 2 --voxel 0.01 --mu 0.04)
+python3 "$here/make_config.py" "${base[@]}" | grep -q '"radius":2016109,"centre":1020000,'
+verdict 'make_config.py finds the least radius' $?
+for radius in 2016108 2016109; do
+  python3 "$here/make_config.py" "${base[@]}" | sed "s/\"radius\":[0-9]*/\"radius\":$radius/" >"$t/radius.scan"
+  echo end >>"$t/radius.scan"
+  evaluated "the opening test at radius $radius" "$t/radius.scan"
+done
+refuses 'make_config.py refuses a radius that is too small' "$here/make_config.py" "${base[@]}" --radius 2.016108
+refuses 'make_config.py refuses a camera that reaches too far' "$here/make_config.py" "${base[@]}" --focal 0.01 1
+refuses 'make_config.py asks for its words' "$here/make_config.py"
+
+mkdir -p "$t/recording/depth"
+python3 - "$t" <<'END'
+import struct, sys, zlib
+for n in range(3):
+    # four by five pixels, each row under another one of the five filters of PNG
+    rows = [b"".join((5000 + 200 * u + 300 * v + 10 * n).to_bytes(2, "big") for u in range(4)) for v in range(5)]
+    packed, above = b"", bytes(8)
+    for kind, row in enumerate(rows):
+        packed += bytes([kind])
+        for i in range(8):
+            left, corner = (row[i - 2], above[i - 2]) if i > 1 else (0, 0)
+            by = lambda p: abs(left + above[i] - corner - p)
+            packed += bytes([row[i] - (0, left, above[i], (left + above[i]) // 2, min((left, above[i], corner), key=by))[kind] & 255])
+        above = row
+    def chunk(name, body):
+        return struct.pack(">I", len(body)) + name + body + struct.pack(">I", zlib.crc32(name + body))
+    with open("%s/recording/depth/%d.png" % (sys.argv[1], n), "wb") as file:
+        file.write(b"\x89PNG\r\n\x1a\n" + chunk(b"IHDR", struct.pack(">IIBBBBB", 4, 5, 16, 0, 0, 0, 0))
+                   + chunk(b"IDAT", zlib.compress(packed)) + chunk(b"IEND", b""))
+    if n == 0:
+        with open(sys.argv[1] + "/raster", "wb") as file:
+            file.write(b"".join(rows))
+END
+printf '# time file\n%s depth/0.png\n%s depth/1.png\n%s depth/2.png\n' 1.00 1.03 9.00 >"$t/recording/depth.txt"
+printf '# time tx ty tz qx qy qz qw\n%s 0 0 0 0 0 0 1\n%s 0.01 0 0 0.01 0.17 0.01 0.98\n' 1.001 1.025 >"$t/recording/groundtruth.txt"
+python3 "$here/make_config.py" --size 4 5 --focal 20 20 --axis 1.5 2 --range 0.5 2 --voxel 0.02 --unit 200 >"$t/config"
+python3 "$here/tum.py" "$t/recording" --config "$t/config" --ask voxels >"$t/tum.scan"
+evaluated 'tum.py makes a scan' "$t/tum.scan"
+grep -q '^frame 2 ' "$t/out" && ! grep -q -e refused -e '^frame 3 ' "$t/out"
+verdict 'a depth map without a pose is left out, and the others are fused' $?
+python3 "$here/tum.py" "$t/recording" --config "$t/config" --frames 1 >"$t/one.scan"
+[ "$(grep -ac '^frame' "$t/one.scan")" = 1 ] && tail -c 48 "$t/one.scan" | head -c 40 | cmp -s - "$t/raster"
+verdict 'tum.py gives as many frames as are asked for, and the samples of the PNG' $?
+refuses 'tum.py refuses a folder that is none' "$here/tum.py" "$t/nothing"
+refuses 'tum.py refuses depth maps of another size' "$here/tum.py" "$t/recording"
+head -c 60 "$t/recording/depth/0.png" >"$t/recording/depth/1.png"
+refuses 'tum.py refuses a PNG that is cut off' "$here/tum.py" "$t/recording" --config "$t/config"
+
+python3 "$here/view.py" "$here/corner.out" --ply "$t/a.ply" --slice "$t/a.png" --surface "$t/b.png" --width 64
+verdict 'view.py shows a surface' $?
+[ "$(sed -n 's/^element vertex //p' "$t/a.ply")" = "$(sed '1,/^end_header/d' "$t/a.ply" | grep -c .)" ]
+verdict 'the PLY has as many points as it says' $?
+python3 "$here/view.py" --slice "$t/a.png" --axis z --at 100 <"$here/wall.out"
+verdict 'view.py shows a slice of standard input' $?
+refuses 'view.py refuses an output without voxels' "$here/view.py" "$here/typed.out" --ply "$t/a.ply"
+head -n 40 "$here/wall.out" >"$t/cut.out"
+refuses 'view.py refuses a reply that is cut off' "$here/view.py" "$t/cut.out" --ply "$t/a.ply"
+
+python3 "$here/compare.py" 1 12 --program "$program" >"$t/out"
+verdict "compare.py: $(tail -n 1 "$t/out")" $?
+
+# Each function that docs/LIBRARY.md shows stands in the tests, word for word but for its comment, so that the gate proves it.
+python3 - "$here/.." <<'END'
+import pathlib, re, sys
+top = pathlib.Path(sys.argv[1])
+tests = "\n".join(path.read_text(encoding="utf-8") for path in sorted(top.glob("crates/*/src/tests.rt")))
+shown = re.findall("```rust\n(.*?)```", (top / "docs/LIBRARY.md").read_text(encoding="utf-8"), re.S)
+parts = [part for block in shown for part in re.split("\n\n(?=///)", block.strip()) if part.startswith("///")]
+missing = [part.split("\n")[0] for part in parts if part.split("\n", 1)[1] not in tests]
+print("\n".join("        " + line for line in missing), end="\n" if missing else "")
+sys.exit(0 if parts and not missing else 1)
+END
+verdict 'docs/LIBRARY.md shows what is proved' $?
+
+echo "$passed passed, $failed failed"
+[ "$failed" = 0 ]
