@@ -21,7 +21,7 @@ use Rattle.block_places.specs.Owners.{block_in, owner_at, voxels_of}
 use Rattle.block_places.specs.Places.{IsPlaced, Places, blocks_of, cell_of, voxels_by, voxels_in}
 use Rattle.block_places.proofs.Blocks.{get-blocks, has-blocks}
 use Rattle.block_places.proofs.Keyed.{some_of, the_same}
-use Rattle.session.specs.Answers.{Held}
+use Rattle.session.specs.Answers.{SessionView}
 use Rattle.session.specs.Fold.{settings_of}
 use Rattle.session.specs.Standing.{HasSizeOf, IsResident, IsSettled, IsStored, Stands}
 
@@ -54,7 +54,7 @@ module _ (p : Places) (placed : IsPlaced p) where
       get-blocks p b ∙ ap (option_map (voxels_by p b)) (empty_slot b n v e) ∙ ap (λ c. Some (voxels_in p.heap c)) (placed.owned b n v e)
       ∙ ap (λ o. Some (voxels_of o new_block)) e
 
-pub stands : (h : Held) → IsSettled h → Stands h
+pub stands : (h : SessionView) → IsSettled h → Stands h
 stands h s =
     let p = h.places in record {
       one_place = one_place p s.placed;

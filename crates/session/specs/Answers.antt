@@ -13,14 +13,14 @@ use Rattle.session.specs.declared.error.FrameError.TheVariants as errors
 
 -- a session: what its map is read and fused by, where the blocks of its map lie, the number of accepted frames, and the
 -- pose of the last one
-pub record Held : Type 0 where
+pub record SessionView : Type 0 where
   pub config : Config
   pub places : Places
   pub frames : ℕ
   pub last : Option Pose
 
 -- its state: the map has each known key's block, wherever it lies
-abbrev pub state_of : Held → State
+abbrev pub state_of : SessionView → State
 state_of h = record { blocks = blocks_of h.places; frames = h.frames; last = h.last }
 
 -- ---- frames

@@ -8,7 +8,7 @@ use Rattle.block_places.specs.Codes.{coded_places}
 use Rattle.block_places.specs.Places.{Places}
 use Rattle.camera.specs.declared.camera.CameraFields.{CameraFields}
 use Rattle.scan_lang.specs.Config.{Config}
-use Rattle.session.specs.Answers.{Held}
+use Rattle.session.specs.Answers.{SessionView}
 
 -- a point is stored as its coordinates
 abbrev coded_point : Coded Vec3
@@ -51,5 +51,5 @@ coded_config = code_by
     (λ _. refl)
 
 -- a session is stored as its fields
-abbrev pub coded_held : Coded Held
-coded_held = code_by (Config × (Places × (ℕ × Option Pose))) (coded× coded_config (coded× coded_places (coded× coded_ℕ (coded_option coded_pose)))) (λ h. (h.config, (h.places, (h.frames, h.last)))) (λ p. record { config = p.0; places = p.1.0; frames = p.1.1.0; last = p.1.1.1 }) (λ _. refl)
+abbrev pub coded_session : Coded SessionView
+coded_session = code_by (Config × (Places × (ℕ × Option Pose))) (coded× coded_config (coded× coded_places (coded× coded_ℕ (coded_option coded_pose)))) (λ h. (h.config, (h.places, (h.frames, h.last)))) (λ p. record { config = p.0; places = p.1.0; frames = p.1.1.0; last = p.1.1.1 }) (λ _. refl)

@@ -1,8 +1,8 @@
 pub mod Answers
 pub mod Codes
 pub mod Fold
-pub mod Held
 pub mod Output
 pub mod Rooms
+pub mod SessionView
 pub mod Standing
 pub mod Sums

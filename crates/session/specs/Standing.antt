@@ -12,7 +12,7 @@ use Rattle.block_places.specs.Owners.{owner_at}
 use Rattle.block_places.specs.Places.{Places, IsPlaced, blocks_of, cell_of}
 use Rattle.fusion_core.specs.Laws.{HasKeysInReach, HasMapWeightsWithin, IsSound}
 use Rattle.scan_lang.specs.Config.{Config}
-use Rattle.session.specs.Answers.{Held, state_of}
+use Rattle.session.specs.Answers.{SessionView, state_of}
 use Rattle.session.specs.Fold.{settings_of}
 
 -- whether a block is active for the last frame; none is where there is no last frame
@@ -37,7 +37,7 @@ pub record HasSizeOf (c : Config) (t : Table) : Type 0 where
   pub nodes : t.nodes ≡ 2 * c.heap_blocks + 65
 
 -- what holds of a session between its calls
-pub record Stands (h : Held) : Type 0 where
+pub record Stands (h : SessionView) : Type 0 where
   -- the block of each key of the map lies in just one place
   pub one_place : (b : BlockKey) → IsTrue (contains_key (blocks_of h.places) b) → IsStored h.places b ⊎ IsResident h.places b
   -- every slot is for a key of the map, and so is every owned cell
@@ -63,7 +63,7 @@ pub record Stands (h : Held) : Type 0 where
   pub reach : HasKeysInReach h.config.camera.voxel (blocks_of h.places)
 
 -- what the session's type keeps, of which the rest follows
-pub record IsSettled (h : Held) : Type 0 where
+pub record IsSettled (h : SessionView) : Type 0 where
   pub placed : IsPlaced h.places
   pub sound : IsSound (settings_of h.config) (state_of h)
   pub active : (b : BlockKey) → contains_key (contents h.places.table) b ≡ (contains_key (blocks_of h.places) b && is_active_last h.config.camera h.last b)

@@ -43,18 +43,18 @@ pub struct Session {
 }
 
 impl Model for Session {
-    ghost use Rattle.session.specs.Codes.{coded_held};
-    ghost use Rattle.session.specs.Answers.{Held};
-    ghost use Rattle.session.specs.Held.{held};
+    ghost use Rattle.session.specs.Codes.{coded_session};
+    ghost use Rattle.session.specs.Answers.{SessionView};
+    ghost use Rattle.session.specs.SessionView.{session_view};
     ghost use Rattle.session.specs.Standing.{IsSettled};
 
-    ghost Value = { Held };
+    ghost Value = { SessionView };
 
-    ghost coded = { coded_held };
+    ghost coded = { coded_session };
 
-    ghost view = { held };
+    ghost view = { session_view };
 
-    ghost invariant = { λ s. IsSettled (held s) };
+    ghost invariant = { λ s. IsSettled (session_view s) };
 }
 
 impl Session {

@@ -12,7 +12,7 @@ use Rattle.fusion_core.specs.Maps.{HasWholeBlocks, need}
 use Rattle.fusion_core.specs.Fold.{State, fused, offered}
 use Rattle.fusion_core.proofs.EachLemmas.{whole_all}
 use Rattle.session.specs.declared.error.FrameError.{FrameError}
-use Rattle.session.specs.Answers.{Held, AnswersRoom, state_of}
+use Rattle.session.specs.Answers.{SessionView, AnswersRoom, state_of}
 use Rattle.session.specs.Fold.{settings_of}
 use Rattle.session.specs.Standing.{IsSettled}
 use Rattle.session.proofs.FrameLemmas.{IsAnswer, fused_arm, fused_is, fused_state, refused_arm, room_arm}
@@ -29,7 +29,7 @@ refused c =
     let depths = c.args.depths in
     let p = err_from_is_err_and c.from_residual.result c.from_residual.ensures.1 in
     subst (IsAnswer h.config (state_of h) rows depths) (sym (p.1 ∙ ap (λ (e : FrameError). Err e) p.2)) (refused_arm h.config (state_of h) rows depths c.in_err-frame.field-0.0
-    (ap (λ (g : Held). offered (settings_of g.config) rows depths) (sym c.self.view_is) ∙ ap (λ (k : Settings). offered k rows depths) (sym c.settings.ensures.value) ∙ sym c.offered.ensures.value ∙ c.in_err-frame.was))
+    (ap (λ (g : SessionView). offered (settings_of g.config) rows depths) (sym c.self.view_is) ∙ ap (λ (k : Settings). offered k rows depths) (sym c.settings.ensures.value) ∙ sym c.offered.ensures.value ∙ c.in_err-frame.was))
 
 pub returns-in_err-frame-clause-answer : goal.returns-in_err-frame-clause-answer
 returns-in_err-frame-clause-answer c = (refused c).answer
@@ -54,8 +54,8 @@ no_room c =
     let e = c.in_err-plan.field-0.0 in
     let p = err_from_is_err_and c.from_residual-in_err-plan.result c.from_residual-in_err-plan.ensures.1 in
     subst (IsAnswer h.config (state_of h) rows depths) (sym (p.1 ∙ ap (λ (e : FrameError). Err e) p.2)) (room_arm h.config (state_of h) rows depths f
-    (ap (λ (g : Held). offered (settings_of g.config) rows depths) (sym c.self.view_is) ∙ ap (λ (k : Settings). offered k rows depths) (sym c.settings.ensures.value) ∙ sym c.offered.ensures.value ∙ c.in_ok-frame.was)
-    e (subst (λ (g : Held). AnswersRoom g.config.heap_blocks (need (blocks_of g.places) f) (Err e)) c.self.view_is (subst (λ l. AnswersRoom l (need (blocks_of c.self.inside.places) f) (Err e)) c.heap_blocks-limit.ensures.value c.in_err-plan.ensures.room)))
+    (ap (λ (g : SessionView). offered (settings_of g.config) rows depths) (sym c.self.view_is) ∙ ap (λ (k : Settings). offered k rows depths) (sym c.settings.ensures.value) ∙ sym c.offered.ensures.value ∙ c.in_ok-frame.was)
+    e (subst (λ (g : SessionView). AnswersRoom g.config.heap_blocks (need (blocks_of g.places) f) (Err e)) c.self.view_is (subst (λ l. AnswersRoom l (need (blocks_of c.self.inside.places) f) (Err e)) c.heap_blocks-limit.ensures.value c.in_err-plan.ensures.room)))
 
 pub returns-in_err-plan-clause-answer : goal.returns-in_err-plan-clause-answer
 returns-in_err-plan-clause-answer c = (no_room c).answer
@@ -68,7 +68,7 @@ returns-in_err-plan-clause-pose c = (no_room c).pose
 
 pub returns-in_err-plan-clause-stands : goal.returns-in_err-plan-clause-stands
 returns-in_err-plan-clause-stands c =
-    let with_places : Places → Held = λ p. record { config = c.self.inside.config; places = p; frames = c.self.inside.frames; last = c.self.inside.last } in
+    let with_places : Places → SessionView = λ p. record { config = c.self.inside.config; places = p; frames = c.self.inside.frames; last = c.self.inside.last } in
     stands (with_places c.make_room.new.places) (subst (λ p. IsSettled (with_places p)) (sym c.in_err-plan.ensures.kept) c.self.invariant)
 
 -- ---- a frame that is fused
@@ -111,17 +111,17 @@ returns-clause-stands c = stands _ (settled c)
 
 now_is : (c : After-drop-frame-inside-2) → record { blocks = blocks_of c.fuse.new.places; frames = c.saturating_add-self-inside.result; last = Some c.pose.result } ≡ fused (state_of c.args.self.now) c.in_ok-frame.frame
 unfolding old new
-now_is c = (λ i. record { blocks = blocks_of c.fuse.new.places; frames = c.saturating_add-self-inside.result; last = Some (c.pose.ensures i) }) ∙ new_is c ∙ ap (λ (g : Held). fused (state_of g) c.in_ok-frame.frame) c.self.view_is
+now_is c = (λ i. record { blocks = blocks_of c.fuse.new.places; frames = c.saturating_add-self-inside.result; last = Some (c.pose.ensures i) }) ∙ new_is c ∙ ap (λ (g : SessionView). fused (state_of g) c.in_ok-frame.frame) c.self.view_is
 
 is_offered : (c : After-drop-frame-inside-2) → offered (settings_of c.args.self.now.config) c.args.rows.now c.args.depths ≡ Ok c.in_ok-frame.frame
 is_offered c =
-    ap (λ (g : Held). offered (settings_of g.config) c.args.rows.now c.args.depths) (sym c.self.view_is) ∙ ap (λ (k : Settings). offered k c.args.rows.now c.args.depths) (sym c.settings.ensures.value) ∙ sym c.offered.ensures.value ∙ c.in_ok-frame.was
+    ap (λ (g : SessionView). offered (settings_of g.config) c.args.rows.now c.args.depths) (sym c.self.view_is) ∙ ap (λ (k : Settings). offered k c.args.rows.now c.args.depths) (sym c.settings.ensures.value) ∙ sym c.offered.ensures.value ∙ c.in_ok-frame.was
 
 has_room : (c : After-drop-frame-inside-2) → AnswersRoom c.args.self.now.config.heap_blocks (need (blocks_of c.args.self.now.places) c.in_ok-frame.frame) (Ok c.in_ok-plan.plan.resident)
 has_room c =
     let f = c.in_ok-frame.frame in
     let n = c.in_ok-plan.plan.resident in
-    subst (λ (g : Held). AnswersRoom g.config.heap_blocks (need (blocks_of g.places) f) (Ok n)) c.self.view_is (subst (λ l. AnswersRoom l (need (blocks_of c.self.inside.places) f) (Ok n)) c.heap_blocks-limit.ensures.value c.in_ok-plan.ensures.room)
+    subst (λ (g : SessionView). AnswersRoom g.config.heap_blocks (need (blocks_of g.places) f) (Ok n)) c.self.view_is (subst (λ l. AnswersRoom l (need (blocks_of c.self.inside.places) f) (Ok n)) c.heap_blocks-limit.ensures.value c.in_ok-plan.ensures.room)
 
 answers : (c : After-drop-frame-inside-2) → IsAnswer c.args.self.now.config (state_of c.args.self.now) c.args.rows.now c.args.depths (Ok (record { frame = c.saturating_add-self-inside.result; blocks = c.len.result; resident = c.in_ok-plan.plan.resident }))
 answers c =
