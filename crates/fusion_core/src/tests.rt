@@ -105,7 +105,7 @@ fn a_wall_is_fused(rt: HostRuntime) -> Result<(), Fail> {
                 }
             );
             assert!(rt; frame.is_active(key));
-            ahead += 1;
+            ahead = ahead.saturating_add(1);
         }
         assert_eq!(rt; ahead, 14);
         let mut block = Block::make(alloc)?;

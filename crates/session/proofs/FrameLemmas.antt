@@ -1,6 +1,6 @@
 -- What a session answers to a frame, one lemma for each way that it ends.
-use Rattle.std.proofs.Common.{◌≡◌, ℕ, ◌+◌, ◌<◌, ◌≤◌, true, false, refl, sym, ap, subst, ◌∙◌}
-use Rattle.std.specs.Prelude.{Some, Result, Ok, Err, OnOk}
+use Rattle.std.proofs.Common.{◌≡◌, ℕ, ◌+◌, true, false, sym, ap, ◌∙◌}
+use Rattle.std.specs.Prelude.{Some, Result, Ok, Err}
 use Rattle.std.specs.List.{fold}
 use Rattle.std.specs.FinMap.{len}
 use Rattle.fixed_geom.specs.PoseTest.{accepted, pose_of}
