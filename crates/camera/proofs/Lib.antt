@@ -13,7 +13,7 @@ pub mod RangeLemmas
 pub mod RayBack
 pub mod RayLemmas
 pub mod Readings
-pub mod Seen
+pub mod Visible
 pub mod SphereLemmas
 pub mod VisibilityLemmas
 pub mod Walk

@@ -5,11 +5,11 @@ use Rattle.voxel_block.specs.declared.key.BlockKey.{BlockKey}
 use Rattle.camera.specs.declared.camera.CameraFields.{CameraFields}
 use Rattle.camera.specs.Cameras.{IsCamera, max_depth, is_active, ray}
 use Rattle.camera.specs.Grid.{block_of_voxel, is_key, nearest_voxel}
-use Rattle.camera.specs.Visibility.{IsInReach, IsMet, IsNearBlock, IsPiercedAt, MeetsNone, may_be_seen}
+use Rattle.camera.specs.Visibility.{IsInReach, IsMet, IsNearBlock, IsPiercedAt, MeetsNone, is_visible}
 
 -- no voxel of a block that is not visible is met
-abbrev pub UnseenMeetsNone : Type 0
-UnseenMeetsNone = (k : CameraFields) (m : Pose) (b : BlockKey) → IsCamera k → IsPose m → may_be_seen k m b ≡ false → MeetsNone k m b
+abbrev pub InvisibleMeetsNone : Type 0
+InvisibleMeetsNone = (k : CameraFields) (m : Pose) (b : BlockKey) → IsCamera k → IsPose m → is_visible k m b ≡ false → MeetsNone k m b
 
 -- a block with a voxel that is met is active
 abbrev pub MetIsActive : Type 0

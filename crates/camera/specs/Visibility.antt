@@ -33,12 +33,12 @@ abbrev pub is_in_view : CameraFields → Vec3 → Bool
 is_in_view k c = is_between_sides k.fx k.cx k.width (margin k) c.x (side_depth k c.z) && is_between_sides k.fy k.cy k.height (margin k) c.y (side_depth k c.z)
 
 -- whether a block whose centre has the camera point c is visible
-abbrev pub may_be_seen_at : CameraFields → Vec3 → Bool
-may_be_seen_at k c = is_at_depth k c.z && is_in_view k c
+abbrev pub is_visible_at : CameraFields → Vec3 → Bool
+is_visible_at k c = is_at_depth k c.z && is_in_view k c
 
 -- whether a block is visible to the camera at a pose
-abbrev pub may_be_seen : CameraFields → Pose → BlockKey → Bool
-may_be_seen k m b = may_be_seen_at k (cam m (centre_of k.voxel b))
+abbrev pub is_visible : CameraFields → Pose → BlockKey → Bool
+is_visible k m b = is_visible_at k (cam m (centre_of k.voxel b))
 
 -- ---- voxels that are met
 

@@ -3,7 +3,7 @@ ghost use Rattle.fixed_geom.specs.Vectors.{AreWithin};
 ghost use Rattle.camera.specs.Cameras.{IsCamera, HasRanges, HasReach, FitsSphere, max_depth, depth_of, ray as ray_of, project as pixel_of, is_active};
 ghost use Rattle.camera.specs.Grid.{key_at, nearest as nearest_of, nearest_voxel, voxel_coordinates, point_of, centre_of};
 ghost use Rattle.camera.specs.Opening.{camera_of, camera_tests, first_failing};
-ghost use Rattle.camera.specs.Visibility.{MeetsNone, may_be_seen};
+ghost use Rattle.camera.specs.Visibility.{MeetsNone, is_visible};
 
 use crate::opening::{check_opening, failing_field};
 use crate::ray::PixelRays;
@@ -189,8 +189,8 @@ impl Camera {
     /// Whether a block is visible at a pose. Where it is not, none of its voxels projects inside the image at a
     /// depth that a frame may touch.
     pub fn may_see(&self, pose: &Pose, key: BlockKey) -> bool
-        ensures value { result ≡ may_be_seen self.now pose.now key }
-        ensures unseen { result ≡ false → MeetsNone self.now pose.now key }
+        ensures value { result ≡ is_visible self.now pose.now key }
+        ensures invisible { result ≡ false → MeetsNone self.now pose.now key }
     {
         let centre = self.block_centre(key);
         visibility::may_see(&self.fields, pose.cam(centre))

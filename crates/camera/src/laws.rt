@@ -1,9 +1,9 @@
-ghost use Rattle.camera.specs.Laws.{MetIsActive, NearestIsActive, PiercedIsActive, UnseenMeetsNone};
+ghost use Rattle.camera.specs.Laws.{MetIsActive, NearestIsActive, PiercedIsActive, InvisibleMeetsNone};
 
 /// No voxel of a block that is not visible projects inside the image at a depth that a frame may
 /// touch. The body is empty: the clause is the theorem.
-pub fn unseen_meets_none()
-    ensures { UnseenMeetsNone }
+pub fn invisible_meets_none()
+    ensures { InvisibleMeetsNone }
 {}
 
 /// A block is active if one of its voxels projects inside the image at a depth that a frame may

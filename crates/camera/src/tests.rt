@@ -204,7 +204,7 @@ fn points_have_blocks_and_voxels(rt: HostRuntime) -> Result<(), BadCamera> {
 }
 
 #[test]
-fn blocks_are_active_and_may_be_seen(rt: HostRuntime) -> Result<(), Fail> {
+fn blocks_are_active_and_visible(rt: HostRuntime) -> Result<(), Fail> {
     let camera = Camera::make(BASE).map_err(|_| Fail::from("camera"))?;
     let one = 1 << 30;
     let rows = PoseRows {

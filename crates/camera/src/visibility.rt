@@ -2,7 +2,7 @@ ghost use Rattle.std.specs.Prelude.{◌≡◌, ◌^◌, pos, neg_ℤ, ◌+ℤ◌
 ghost use Rattle.std.specs.Int.{int_max};
 ghost use Rattle.fixed_geom.specs.Vectors.{AreWithin, IsWithin};
 ghost use Rattle.camera.specs.Cameras.{HasRanges, right as right_of};
-ghost use Rattle.camera.specs.Visibility.{is_at_depth as is_at_depth_of, is_between_sides as is_between_sides_of, is_in_view as is_in_view_of, margin as margin_of, may_be_seen_at, side_depth as side_depth_of};
+ghost use Rattle.camera.specs.Visibility.{is_at_depth as is_at_depth_of, is_between_sides as is_between_sides_of, is_in_view as is_in_view_of, margin as margin_of, is_visible_at, side_depth as side_depth_of};
 
 use crate::camera::CameraFields;
 use crate::shared::{left, max_depth, times};
@@ -13,7 +13,7 @@ use fixed_geom::Vec3;
 pub fn may_see(camera: &CameraFields, centre: Vec3) -> bool
     requires camera { HasRanges camera.now }
     requires centre { AreWithin (pos (2 ^ 42)) centre }
-    ensures { result ≡ may_be_seen_at camera.now centre }
+    ensures { result ≡ is_visible_at camera.now centre }
 {
     is_at_depth(camera, centre.z) && is_in_view(camera, centre)
 }

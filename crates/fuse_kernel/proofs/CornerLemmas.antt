@@ -12,7 +12,7 @@ use Rattle.voxel_block.specs.declared.key.BlockKey.{BlockKey}
 use Rattle.camera.specs.declared.camera.CameraFields.{CameraFields}
 use Rattle.camera.specs.Cameras.{HasRanges, IsCamera}
 use Rattle.camera.specs.Grid.{point_of}
-use Rattle.camera.specs.Visibility.{may_be_seen}
+use Rattle.camera.specs.Visibility.{is_visible}
 use Rattle.camera.proofs.Readings.{read}
 use Rattle.fuse_kernel.specs.declared.near_cam_q30.NearCamQ30.{NearCamQ30}
 use Rattle.fuse_kernel.specs.VoxelSteps.{NearCamQ30Within, cam_q30_of, near_of, step_by}
@@ -44,5 +44,5 @@ coordinates_are m f p q x y z e =
     at ∙ ap (cam_q30_of m) e
 
 -- that of a visible block is near
-pub corner_near : (k : CameraFields) (m : Pose) (b : BlockKey) (f : NearCamQ30) → IsCamera k → IsPose m → IsTrue (may_be_seen k m b) → f ≡ cam_q30_of m (point_of k.voxel b 0) → NearCamQ30Within (pos 36028797018963968) f
+pub corner_near : (k : CameraFields) (m : Pose) (b : BlockKey) (f : NearCamQ30) → IsCamera k → IsPose m → IsTrue (is_visible k m b) → f ≡ cam_q30_of m (point_of k.voxel b 0) → NearCamQ30Within (pos 36028797018963968) f
 corner_near k m b f camera pose visible e = subst (NearCamQ30Within (pos 36028797018963968)) (sym e) (visible_cam_q30 k m b 0 camera pose (omega arith) visible)

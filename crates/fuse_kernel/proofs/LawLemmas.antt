@@ -11,11 +11,11 @@ use Rattle.voxel_block.proofs.Blocks.{All-by_index, by_index-unchanged}
 use Rattle.camera.specs.declared.camera.CameraFields.{CameraFields}
 use Rattle.camera.specs.Cameras.{depth_of, is_active, project, valid_depth, within}
 use Rattle.camera.specs.Grid.{point_of}
-use Rattle.camera.specs.Visibility.{IsMetAt, MeetsNone, may_be_seen}
+use Rattle.camera.specs.Visibility.{IsMetAt, MeetsNone, is_visible}
 use Rattle.camera.proofs.Active.{met_is_active, inactive_meets_none}
 use Rattle.camera.proofs.Inside.{met_by_pixel}
 use Rattle.camera.proofs.RangeLemmas.{at_most, between}
-use Rattle.camera.proofs.Seen.{unseen_meets_none}
+use Rattle.camera.proofs.Visible.{invisible_meets_none}
 use Rattle.depth_frame.specs.DepthMaps.{sample_at}
 use Rattle.depth_view.specs.Views.{View, IsView, depth_at}
 use Rattle.fuse_kernel.specs.Updates.{HasWeightsWithin, Meets, averaged, shown_depth, signed_distance, signed_distance_of, update, update_by, updated}
@@ -74,8 +74,8 @@ met_is_met w p m =
     deep : (far mu d z : ℤ) → d ≤ℤ far → (neg_ℤ mu) ≤ℤ (d -ℤ z) → z ≤ℤ (far +ℤ mu)
     deep far mu d z h k = omega (arith, ints)
 
-pub invisible_is_not_met : (w : View) (b : BlockKey) (i : ℕ) → IsView w → i < 512 → may_be_seen w.camera w.pose b ≡ false → ¬ Meets w (point_of w.camera.voxel b i)
-invisible_is_not_met w b i o below hidden = λ m. unseen_meets_none w.camera w.pose b o.camera.ranges o.pose.range hidden i below (met_is_met w (point_of w.camera.voxel b i) m)
+pub invisible_is_not_met : (w : View) (b : BlockKey) (i : ℕ) → IsView w → i < 512 → is_visible w.camera w.pose b ≡ false → ¬ Meets w (point_of w.camera.voxel b i)
+invisible_is_not_met w b i o below hidden = λ m. invisible_meets_none w.camera w.pose b o.camera.ranges o.pose.range hidden i below (met_is_met w (point_of w.camera.voxel b i) m)
 
 pub inactive_is_not_met : (w : View) (b : BlockKey) (i : ℕ) → IsView w → i < 512 → is_active w.camera w.pose b ≡ false → ¬ Meets w (point_of w.camera.voxel b i)
 inactive_is_not_met w b i o below inactive = λ m. inactive_meets_none w.camera w.pose b o.camera.ranges o.camera.sphere o.pose.range inactive i below (met_is_met w (point_of w.camera.voxel b i) m)
@@ -91,7 +91,7 @@ none_met_stays w n b voxels long none = by_index-unchanged (λ i x. update w n (
 pub meets_none_stays : (w : View) (n : ℕ) (b : BlockKey) (voxels : List Voxel) → length voxels ≡ 512 → MeetsNone w.camera w.pose b → voxels ≡ updated w n b voxels
 meets_none_stays w n b voxels long none = sym (none_met_stays w n b voxels long (λ i below m. none i below (met_is_met w (point_of w.camera.voxel b i) m)))
 
-pub invisible_stays : (w : View) (n : ℕ) (b : BlockKey) (voxels : List Voxel) → IsView w → length voxels ≡ 512 → may_be_seen w.camera w.pose b ≡ false → updated w n b voxels ≡ voxels
+pub invisible_stays : (w : View) (n : ℕ) (b : BlockKey) (voxels : List Voxel) → IsView w → length voxels ≡ 512 → is_visible w.camera w.pose b ≡ false → updated w n b voxels ≡ voxels
 invisible_stays w n b voxels o long hidden = none_met_stays w n b voxels long (λ i below. invisible_is_not_met w b i o below hidden)
 
 pub inactive_stays : (w : View) (n : ℕ) (b : BlockKey) (voxels : List Voxel) → IsView w → length voxels ≡ 512 → is_active w.camera w.pose b ≡ false → updated w n b voxels ≡ voxels

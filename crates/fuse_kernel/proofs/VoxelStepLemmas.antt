@@ -15,7 +15,7 @@ use Rattle.voxel_block.specs.declared.key.BlockKey.{BlockKey}
 use Rattle.camera.specs.declared.camera.CameraFields.{CameraFields}
 use Rattle.camera.specs.Cameras.{HasRanges, HasReach, IsCamera, max_depth, half, left, reach_axis, right}
 use Rattle.camera.specs.Grid.{centre_of, point_of}
-use Rattle.camera.specs.Visibility.{is_at_depth, is_between_sides, is_in_view, margin, may_be_seen, may_be_seen_at, side_depth}
+use Rattle.camera.specs.Visibility.{is_at_depth, is_between_sides, is_in_view, margin, is_visible, is_visible_at, side_depth}
 use Rattle.camera.proofs.Offsets.{voxel_step}
 use Rattle.camera.proofs.RangeLemmas.{is_at_most}
 use Rattle.camera.proofs.RayLemmas.{at_depth, half_covers}
@@ -183,7 +183,7 @@ bounded_depth : (far mu s z : ℤ) → far ≤ℤ pos 16000000 → mu ≤ℤ pos
 bounded_depth far mu s z a b low high h k = record { low = omega (arith, ints); high = omega (arith, ints) }
 
 -- the centre of a visible block is near the camera
-centre_near : (k : CameraFields) (c : Vec3) → HasRanges k → HasReach k → IsTrue (may_be_seen_at k c) → AreWithin (pos 18400000) c
+centre_near : (k : CameraFields) (c : Vec3) → HasRanges k → HasReach k → IsTrue (is_visible_at k c) → AreWithin (pos 18400000) c
 centre_near k c r reach t =
     let n = margin k in
     let s0 : pos 0 ≤ℤ k.voxel = omega (arith, ints, r.voxel) in
@@ -210,7 +210,7 @@ cam_q30_axis_within a q near s is w low high v =
     moved q near s w low high v = record { low = omega (arith, ints); high = omega (arith, ints) }
 
 -- those of a voxel of a visible block are within 2^55
-pub visible_cam_q30 : (k : CameraFields) (m : Pose) (b : BlockKey) (i : ℕ) → IsCamera k → IsPose m → i < 512 → IsTrue (may_be_seen k m b) → NearCamQ30Within (pos 36028797018963968) (cam_q30_of m (point_of k.voxel b i))
+pub visible_cam_q30 : (k : CameraFields) (m : Pose) (b : BlockKey) (i : ℕ) → IsCamera k → IsPose m → i < 512 → IsTrue (is_visible k m b) → NearCamQ30Within (pos 36028797018963968) (cam_q30_of m (point_of k.voxel b i))
 visible_cam_q30 k m b i o w below visible =
     let p = point_of k.voxel b i in
     let c = cam m (centre_of k.voxel b) in

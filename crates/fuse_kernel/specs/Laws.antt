@@ -6,7 +6,7 @@ use Rattle.voxel_block.specs.declared.key.BlockKey.{BlockKey}
 use Rattle.voxel_block.specs.declared.voxel.Voxel.{Voxel}
 use Rattle.camera.specs.Cameras.{is_active}
 use Rattle.camera.specs.Grid.{point_of}
-use Rattle.camera.specs.Visibility.{may_be_seen}
+use Rattle.camera.specs.Visibility.{is_visible}
 use Rattle.depth_view.specs.Views.{View, IsView}
 use Rattle.fuse_kernel.specs.Updates.{HasWeightsWithin, Meets, averaged, update, updated}
 
@@ -20,7 +20,7 @@ UnmetStays = (w : View) (n : ℕ) (p : Vec3) (x : Voxel) → ¬ Meets w p → up
 
 -- a frame meets no voxel of a block that is not visible
 abbrev pub InvisibleIsNotMet : Type 0
-InvisibleIsNotMet = (w : View) (b : BlockKey) (i : ℕ) → IsView w → i < 512 → may_be_seen w.camera w.pose b ≡ false → ¬ Meets w (point_of w.camera.voxel b i)
+InvisibleIsNotMet = (w : View) (b : BlockKey) (i : ℕ) → IsView w → i < 512 → is_visible w.camera w.pose b ≡ false → ¬ Meets w (point_of w.camera.voxel b i)
 
 -- a block is active if the frame meets a voxel of it
 abbrev pub MetIsActive : Type 0
@@ -28,7 +28,7 @@ MetIsActive = (w : View) (b : BlockKey) (i : ℕ) → IsView w → i < 512 → M
 
 -- so the update leaves a block that is not visible as it is
 abbrev pub InvisibleStays : Type 0
-InvisibleStays = (w : View) (n : ℕ) (b : BlockKey) (voxels : List Voxel) → IsView w → length voxels ≡ 512 → may_be_seen w.camera w.pose b ≡ false → updated w n b voxels ≡ voxels
+InvisibleStays = (w : View) (n : ℕ) (b : BlockKey) (voxels : List Voxel) → IsView w → length voxels ≡ 512 → is_visible w.camera w.pose b ≡ false → updated w n b voxels ≡ voxels
 
 -- and one that is not active
 abbrev pub InactiveStays : Type 0

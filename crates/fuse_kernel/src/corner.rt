@@ -2,7 +2,7 @@
 //! where it is visible.
 ghost use Rattle.std.specs.Prelude.{◌≡◌, ◌^◌, pos, IsTrue};
 ghost use Rattle.camera.specs.Grid.{point_of};
-ghost use Rattle.camera.specs.Visibility.{may_be_seen};
+ghost use Rattle.camera.specs.Visibility.{is_visible};
 ghost use Rattle.fuse_kernel.specs.VoxelSteps.{NearCamQ30Within, cam_q30_of, near_of};
 
 use crate::near_cam_q30::NearCamQ30;
@@ -12,7 +12,7 @@ use voxel_block::BlockKey;
 
 /// The scaled camera coordinates of the first voxel of a visible block.
 pub fn corner(camera: &Camera, pose: &Pose, key: BlockKey) -> NearCamQ30
-    requires { IsTrue (may_be_seen camera.now pose.now key) }
+    requires { IsTrue (is_visible camera.now pose.now key) }
     ensures value { result ≡ cam_q30_of pose.now (point_of camera.now.voxel key 0) }
     ensures bound { NearCamQ30Within (pos (2 ^ 55)) result }
 {

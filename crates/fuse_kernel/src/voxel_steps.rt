@@ -1,7 +1,7 @@
 ghost use Rattle.std.specs.Prelude.{◌≡◌, ◌^◌, ◌<◌, ◌/◌, ◌%◌, pos, ◌+ℤ◌, ◌*ℤ◌, ◌≤ℤ◌, IsTrue};
 ghost use Rattle.fixed_geom.specs.Poses.{entry_bound};
 ghost use Rattle.fixed_geom.specs.Vectors.{IsWithin, vec};
-ghost use Rattle.camera.specs.Visibility.{may_be_seen};
+ghost use Rattle.camera.specs.Visibility.{is_visible};
 ghost use Rattle.fuse_kernel.specs.VoxelSteps.{HasStepBounds, NearCamQ30Within, cam_q30_at, step_by, voxel_steps_of};
 
 use crate::corner::corner;
@@ -23,7 +23,7 @@ pub struct VoxelSteps {
 impl VoxelSteps {
     /// The steps over a visible block.
     pub fn make(camera: &Camera, pose: &Pose, key: BlockKey) -> VoxelSteps
-        requires { IsTrue (may_be_seen camera.now pose.now key) }
+        requires { IsTrue (is_visible camera.now pose.now key) }
         ensures value { result ≡ voxel_steps_of camera.now.voxel pose.now key }
         ensures bound { HasStepBounds result }
     {

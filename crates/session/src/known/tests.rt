@@ -9,7 +9,7 @@ fn voxels_have_their_places(rt: HostRuntime) {
         y: 2,
         z: 32767,
     };
-    let seen = Voxel { f: -32767, w: 255 };
+    let observed = Voxel { f: -32767, w: 255 };
     for (key, i, place) in [
         (origin, 0, (0, 0, 0)),
         (origin, 1, (1, 0, 0)),
@@ -26,7 +26,7 @@ fn voxels_have_their_places(rt: HostRuntime) {
             f: -32767,
             w: 255,
         };
-        assert_eq!(rt; known_at(key, i, seen), Some(voxel));
+        assert_eq!(rt; known_at(key, i, observed), Some(voxel));
     }
     assert_eq!(rt; known_at(origin, 0, Voxel { f: 32767, w: 0 }), None);
 }

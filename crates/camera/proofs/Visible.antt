@@ -12,7 +12,7 @@ use Rattle.voxel_block.specs.declared.key.BlockKey.{BlockKey}
 use Rattle.camera.specs.declared.camera.CameraFields.{CameraFields}
 use Rattle.camera.specs.Grid.{point_of, centre_of}
 use Rattle.camera.specs.Cameras.{HasRanges, left, right, max_depth}
-use Rattle.camera.specs.Visibility.{IsMet, IsMetAt, MeetsNone, margin, side_depth, is_at_depth, is_between_sides, is_in_view, may_be_seen_at, may_be_seen}
+use Rattle.camera.specs.Visibility.{IsMet, IsMetAt, MeetsNone, margin, side_depth, is_at_depth, is_between_sides, is_in_view, is_visible_at, is_visible}
 use Rattle.camera.proofs.RangeLemmas.{at_most}
 use Rattle.camera.proofs.Inside.{inside_low, inside_high, projects_inside}
 use Rattle.camera.proofs.Offsets.{voxel_step}
@@ -61,8 +61,8 @@ sides_hold f c w n x q z h f1 c0 z0 in_left in_right below above deep =
     (at_most _ _ (high_test f (right w c) x q n z h f1 z0 in_right above deep))
 
 -- a centre near a point that projects inside passes the visibility test
-pub seen_near : (k : CameraFields) (p c : Vec3) → HasRanges k → IsMetAt k p → AreWithin (pos 13 *ℤ k.voxel) (minus p c) → IsTrue (may_be_seen_at k c)
-seen_near k p c r met near =
+pub visible_near : (k : CameraFields) (p c : Vec3) → HasRanges k → IsMetAt k p → AreWithin (pos 13 *ℤ k.voxel) (minus p c) → IsTrue (is_visible_at k c)
+visible_near k p c r met near =
     let s = k.voxel in
     let n = margin k in
     let i = projects_inside k p met.inside in
@@ -80,9 +80,9 @@ seen_near k p c r met near =
     both_hold (is_at_depth k c.z) (is_in_view k c) depth view
 
 -- where a voxel is met, its block is visible
-pub met_is_seen : (k : CameraFields) (m : Pose) (b : BlockKey) (i : ℕ) → HasRanges k → HasPoseRange m → i < 512 → IsMet k m b i → IsTrue (may_be_seen k m b)
-met_is_seen k m b i r o below met = seen_near k (cam m (point_of k.voxel b i)) (cam m (centre_of k.voxel b)) r met (voxel_step m k.voxel b i o (omega (arith, ints, r.voxel)) below)
+pub met_is_visible : (k : CameraFields) (m : Pose) (b : BlockKey) (i : ℕ) → HasRanges k → HasPoseRange m → i < 512 → IsMet k m b i → IsTrue (is_visible k m b)
+met_is_visible k m b i r o below met = visible_near k (cam m (point_of k.voxel b i)) (cam m (centre_of k.voxel b)) r met (voxel_step m k.voxel b i o (omega (arith, ints, r.voxel)) below)
 
 -- so no voxel of a block that is not visible is met
-pub unseen_meets_none : (k : CameraFields) (m : Pose) (b : BlockKey) → HasRanges k → HasPoseRange m → may_be_seen k m b ≡ false → MeetsNone k m b
-unseen_meets_none k m b r o fails = λ i below met. false≢true (sym fails ∙ met_is_seen k m b i r o below met)
+pub invisible_meets_none : (k : CameraFields) (m : Pose) (b : BlockKey) → HasRanges k → HasPoseRange m → is_visible k m b ≡ false → MeetsNone k m b
+invisible_meets_none k m b r o fails = λ i below met. false≢true (sym fails ∙ met_is_visible k m b i r o below met)
