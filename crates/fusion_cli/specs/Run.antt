@@ -27,7 +27,7 @@ is_fuse (word ∷ other ∷ more) = false
 abbrev pub IsCutOff : Ending → Type 0
 IsCutOff ending = (offset : ℕ) × (ending ≡ refused (short offset))
 
--- what the source has given of the text ends with the scan's line `end`
+-- what the source has given of the text is a whole scan, with its line `end`
 abbrev pub GivesEnd : (text : List ℕ) → (left : Option (List ℕ)) → Type 0
 GivesEnd text left = StaysKnown left (λ rest. (given : List ℕ) × (text ≡ given ++ rest) × ((output_of given).ending ≡ complete))
 

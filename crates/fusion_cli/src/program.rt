@@ -37,7 +37,7 @@ pub fn run_program<S: Source, K: Sink, E: Sink>(
     ensures code { result.code ≡ exit_code_of result.status }
     ensures line { Reports (E.written errors.old) (E.written errors.new) (E.faults errors.old) (E.faults errors.new) result.status }
 
-    // The command is run over the arguments behind the first.
+    // The command is run over the arguments after the first.
     ensures answer { Answers (S.left source.old) (S.left source.new) (K.written sink.old) (K.written sink.new) result.status }
     ensures usage { result.status ≡ Status.Usage → is_usage args ≡ true }
     ensures refused { is_usage args ≡ true → (result.status ≡ Status.Usage) ⊎ (result.status ≡ Status.NoMemory) }

@@ -12,13 +12,13 @@ use std::test::Fail;
 const BASE: &str =
     "{\"version\":1,\"width\":1,\"height\":1,\"fx\":65536,\"fy\":65536,\"cx\":0,\"cy\":0,\"unit\":1000,\"near\":500000,\"far\":2000000,\"voxel\":10000,\"mu\":40000,\"max_weight\":255,\"radius\":2100000,\"centre\":1020000,\"heap_blocks\":64,\"buckets\":16,\"empty_f\":30000}\n";
 
-// A frame by the first coordinate of its place, in metres, and the two bytes of its sample.
-type Shot = (&'static str, [u8; 2]);
+// A frame: whether it is taken 50 metres beside the origin, and the two bytes of its sample.
+type Shot = (bool, [u8; 2]);
 
-// A wall one metre away, seen from the origin and from 50 metres beside it.
-const WALL: Shot = ("0", [0x03, 0xe8]);
+// A wall one metre away.
+const WALL: Shot = (false, [0x03, 0xe8]);
 
-const FAR_WALL: Shot = ("50", [0x03, 0xe8]);
+const FAR_WALL: Shot = (true, [0x03, 0xe8]);
 
 const ONE_FRAME: &str = "frame 1 blocks 2 resident 2\n";
 
@@ -41,9 +41,9 @@ fn config(alloc: Global, field: &str, value: &str) -> Result<Vec<u8>, Fail> {
 // A configuration, frames of one pixel, and then more.
 fn scan(config: Vec<u8>, shots: &[Shot], more: &str) -> Result<Vec<u8>, Fail> {
     let mut text = config;
-    for (x, sample) in shots {
+    for (far, sample) in shots {
         text.extend_from_slice(b"frame 1 0 0 ")?;
-        text.extend_from_slice(x.as_bytes())?;
+        text.extend_from_slice(if *far { b"50".as_slice() } else { b"0".as_slice() })?;
         text.extend_from_slice(b" 0 1 0 0 0 0 1 0\nP5\n1 1\n65535\n")?;
         text.extend_from_slice(sample)?;
     }
@@ -81,7 +81,7 @@ fn scans_are_answered(rt: HostRuntime) -> Result<(), Fail> {
             "depths that are not valid",
             "",
             "",
-            &[("0", [0, 0]), ("0", [0xff, 0xff])],
+            &[(false, [0, 0]), (false, [0xff, 0xff])],
             END,
             "frame 1 blocks 0 resident 0\nframe 2 blocks 0 resident 0\nend\n",
             Status::Done,
@@ -99,7 +99,7 @@ fn scans_are_answered(rt: HostRuntime) -> Result<(), Fail> {
             "a wall one step further",
             "",
             "",
-            &[WALL, ("0", [0x03, 0xf2])],
+            &[WALL, (false, [0x03, 0xf2])],
             "sum\nend\n",
             "frame 1 blocks 2 resident 2\nframe 2 blocks 2 resident 2\nsum blocks 2 known 640 weight 1216 distance -128\nend\n",
             Status::Done,
@@ -110,10 +110,10 @@ fn scans_are_answered(rt: HostRuntime) -> Result<(), Fail> {
             "",
             "",
             &[
-                ("0", [0x01, 0xf3]),
-                ("0", [0x01, 0xf4]),
-                ("0", [0x07, 0xd0]),
-                ("0", [0x07, 0xd1]),
+                (false, [0x01, 0xf3]),
+                (false, [0x01, 0xf4]),
+                (false, [0x07, 0xd0]),
+                (false, [0x07, 0xd1]),
             ],
             END,
             "frame 1 blocks 0 resident 0\nframe 2 blocks 2 resident 2\nframe 3 blocks 4 resident 4\nframe 4 blocks 4 resident 4\nend\n",

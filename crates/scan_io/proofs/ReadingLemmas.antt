@@ -316,21 +316,6 @@ pub record KeepsEnds {W V : Type 0} (f : W → V) (ended : ℕ → W) (ended_as 
   pub offset : ℕ → ℕ
   pub is : (n : ℕ) → f (ended n) ≡ ended_as (offset n)
 
-turned_known : {X Y E W F V : Type 0} (errors : Errors E W) (others : Errors F V) (f : W → V) (view : X → Y) (parse : List ℕ → Result (Y × List ℕ) W) (x : X) (a b : ℕ) (old new left : Option (List ℕ))
-    → KnownReads errors view parse a b old new left (Ok x) → KnownReads others view (λ t. turned f (parse t)) a b old new left (Ok x)
-turned_known errors others f view parse x a b None new left h = tt
-turned_known errors others f view parse x a b (Some text) None left h = absurd h
-turned_known errors others f view parse x a b (Some text) (Some rest) left h = record { front = h.front; is = h.is; count = h.count; again = λ other. ap (turned f) (h.again other) }
-
--- what a reader gave is given by the reader above, whose refusals are said otherwise
-pub reads_turned : {X Y E W F V : Type 0} {errors : Errors E W} (others : Errors F V) (f : W → V) (view : X → Y) {parse : List ℕ → Result (Y × List ℕ) W} (x : X) {old new : Stream}
-    → Reads errors view parse old new (Ok x) → Reads others view (λ t. turned f (parse t)) old new (Ok x)
-reads_turned {errors = errors} others f view {parse = parse} x {old = old} {new = new} h = record {
-  known = turned_known errors others f view parse x old.given new.given old.come new.come new.left h.known;
-  front = h.front;
-  faults = h.faults;
-}
-
 turned_refusal : {Y W V : Type 0} (ended : ℕ → W) (ended_as : ℕ → V) (f : W → V) (parse : List ℕ → Result (Y × List ℕ) W) (k : Cause W) (l : Cause V) (text : List ℕ) (left : Option (List ℕ))
     → KeepsEnds f ended ended_as → l ≡ cause_turned f k → KnownRefusal ended parse text left k → KnownRefusal ended_as (λ t. turned f (parse t)) text left l
 turned_refusal ended ended_as f parse (refused why) l text left ends is h = rw is (ap (turned f) h)

@@ -36,9 +36,6 @@ tail_start t h v s lt f e =
     let at = (s.ends h lt).1 in
     tail_from t h (v - 1) at.over (s.ends h lt).0 at.leads at.none at.few (let p : link_word t h ≡ suc (v - 1) = omega arith in p)
 
-pub tail_end : (t : Table) (h n j i : ℕ) → Tail t h n j i → link_word t (t.buckets + n) ≡ 0 → IsChainEnd t h n j
-tail_end t h n j i a z = record { over = a.over; leads = a.leads; step = a.step; none = z }
-
 tail_next_by : (t : Table) (h n j i v : ℕ) (over : List ℕ) → Leads t h h over j → IsStep t h j n → (ns : List ℕ) (k : ℕ) → Leads t h (t.buckets + n) ns k → link_word t k ≡ 0 → length ns + i ≤ t.linked → link_word t (t.buckets + n) ≡ v → v ≢ 0
     → Tail t h (v - 1) (t.buckets + n) (i + 1)
 tail_next_by t h n j i v over a st [] k r z f e nz = absurd (nz (sym e ∙ ap (link_word t) r ∙ z))
