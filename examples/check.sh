@@ -75,7 +75,7 @@ evaluated 'a scan that is cut off' "$t/cut.scan"
 { head -n 5 "$here/typed.scan"; echo 'summ'; } >"$t/line.scan"
 evaluated 'a record that is none' "$t/line.scan"
 
-# A scan of more than 2 MB: a depth map in which only the last pixel shows a depth, then a record behind it.
+# A scan of more than 2 MB: a depth map in which only the last pixel shows a depth, then two records after it.
 {
   python3 "$here/make_config.py" --size 1050 1000 --focal 1000 1000 --axis 525 500 --range 0.5 2 --voxel 0.05
   printf 'frame 1 0 0 0 0 1 0 0 0 0 1 0\nP5 1050 1000 65535\n'
@@ -93,6 +93,18 @@ for name in typed wall turned; do
   python3 "$here/expected.py" <"$here/$name.scan" | cmp -s - "$here/$name.out"
   verdict "expected.py computes $name.out" $?
 done
+# The sums that the kernel's test expects, row by row in its table; `unmet` there names those of a block that stays new.
+python3 "$here/expected.py" --blocks >"$t/want" && python3 - "$here/../crates/fuse_kernel/src/tests.rt" >"$t/out" <<'END'
+import re, sys
+table = open(sys.argv[1], encoding="utf-8").read().split("fn whole_blocks")[1]
+numbers = r"\((\d+), (-?\d+), (\d+)\)"
+unmet = re.search("let unmet = " + numbers, table)
+for row in re.finditer(r'"([^"]+)",\s*[A-Z]+,\s*\w+,\s*\([-0-9, ]+\),\s*(?:unmet|' + numbers + ")", table):
+    print("%s: %s %s %s" % (row[1], *(row.groups()[1:] if row[2] else unmet.groups())))
+END
+cmp "$t/out" "$t/want"
+verdict 'expected.py --blocks computes the sums of the test of fuse_kernel' $?
+refuses 'expected.py asks for its words' "$here/expected.py" --block
 
 # Each script.
 python3 "$here/corner.py" | cmp -s - "$here/corner.scan"

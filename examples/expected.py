@@ -1,5 +1,6 @@
 #!/usr/bin/env python3
 """expected.py < SCAN > OUTPUT   computes what `fuse` has to write for a scan, by the rules of docs/SCAN.md and docs/MODEL.md.
+expected.py --blocks          prints the sums of single blocks that the tests of fuse_kernel expect.
 
 Its exit status and its line on standard error are the program's too. It shares nothing with the program, and it is slow: it is
 here so that the expected outputs of the examples come from outside. JSON that Python and the program read otherwise (as NaN, or a
@@ -13,7 +14,7 @@ E = 2 ** 30
 
 
 class Refused(Exception):
-    """A scan is refused at a place, for a reason."""
+    """A scan is refused at an offset, for a reason."""
 
     def __init__(self, at, what):
         super().__init__("fusion: scan refused at byte %d: %s" % (at, what))
@@ -119,7 +120,7 @@ def number(word, scale):
 
 
 def pgm_at(text, start):
-    """The sides and samples of the PGM at a place, and the place behind it."""
+    """The sides and samples of the PGM at an offset, and the offset after it."""
     at = start
 
     def byte():
@@ -137,7 +138,7 @@ def pgm_at(text, start):
         return b == 32 or 9 <= b <= 13
 
     def gap_and_number():
-        """A gap of white bytes and comments, and the digits behind it."""
+        """A gap of white bytes and comments, and the digits after it."""
         nonlocal at
         gap = at
         while True:
@@ -184,13 +185,13 @@ def pgm_at(text, start):
     return tuple(sides), raw, at
 
 
-def line_at(text, place, limit):
-    end = text.find(b"\n", place)
-    if (end if end >= 0 else len(text)) - place > limit:
-        raise Refused(place + limit, "long")
+def line_at(text, at, limit):
+    end = text.find(b"\n", at)
+    if (end if end >= 0 else len(text)) - at > limit:
+        raise Refused(at + limit, "long")
     if end < 0:
         raise Refused(len(text), "short")
-    return text[place:end]
+    return text[at:end]
 
 
 def known_lines(blocks):
@@ -200,12 +201,12 @@ def known_lines(blocks):
 
 def answer(config, state, text, out):
     """Answers the records of a text one after the other."""
-    place, lines, blocks = len(line_at(text, 0, 4096)) + 1, 1, state["blocks"]
+    at, lines, blocks = len(line_at(text, 0, 4096)) + 1, 1, state["blocks"]
     while True:
         if lines == 1000000:
-            raise Refused(place, "lines" if place < len(text) else "short")
-        lines, start, line = lines + 1, place, line_at(text, place, 1024)
-        place += len(line) + 1
+            raise Refused(at, "lines" if at < len(text) else "short")
+        lines, start, line = lines + 1, at, line_at(text, at, 1024)
+        at += len(line) + 1
         words = list(re.finditer(rb"[^ \t\r]+", line))
         if not words:
             continue
@@ -216,7 +217,7 @@ def answer(config, state, text, out):
                 rows.append(number(w[0], 10 ** 6 if i % 4 == 3 else E))
                 if rows[-1] is None:
                     raise Refused(start + w.start(), "number")
-            sides, raw, place = pgm_at(text, place)
+            sides, raw, at = pgm_at(text, at)
             out.append(frame_reply(config, state, rows, sides, raw))
         elif word == b"voxels" and len(words) == 1:
             known = known_lines(blocks)
@@ -273,7 +274,39 @@ def config_of(line):
     return k
 
 
+WALL_CAMERA = dict(width=16, height=12, fx=1048576, fy=1048576, cx=524288, cy=393216, unit=1000, near=300000, far=2000000,
+                   voxel=10000, mu=40000)
+UPRIGHT = (E, 0, 0, 0, 0, E, 0, 0, 0, 0, E, 0)
+SIDEWAYS = (0, 0, E, 12345, 0, E, 0, -6789, -E, 0, 0, 101)
+TILTED = (644245094, -858993459, 0, 12345, 858993459, 644245094, 0, -6789, 0, 0, E, 101)
+BLOCKS = [("in front of the wall", UPRIGHT, (0, 0, 12)), ("at the camera", UPRIGHT, (-1, -1, 0)),
+          ("at the right edge of the image", UPRIGHT, (6, 0, 12)), ("at the upper edge of the image", UPRIGHT, (0, -5, 11)),
+          ("behind the camera", UPRIGHT, (0, 0, -5)), ("to the right of the image", UPRIGHT, (9, 0, 12)),
+          ("at the ends of the keys", UPRIGHT, (32767, -32768, 5)), ("along x", SIDEWAYS, (12, 0, 0)),
+          ("beside the image, along x", SIDEWAYS, (0, 0, 12)), ("tilted", TILTED, (2, -3, 12)),
+          ("at the ends of the keys, tilted", TILTED, (-32768, 32767, -32768))]
+
+
+def block_sums():
+    """Of each block in BLOCKS, after three frames of a rough wall: its name, the number of its known voxels, and the sums over
+    all its voxels of (index + 1) times the distance and of (index + 1) times the weight."""
+    for name, rows, key in BLOCKS:
+        voxels = [(32767, 0)] * 512
+        for depth_mm, max_weight in [(1000, 255), (950, 255), (990, 2)]:
+            wall = [0 if i % 7 == 0 else depth_mm + i % 5 * 20 for i in range(16 * 12)]
+            update(dict(WALL_CAMERA, max_weight=max_weight), rows, wall, key, voxels)
+        yield (name, sum(w > 0 for _, w in voxels), sum(i * f for i, (f, _) in enumerate(voxels, 1)),
+               sum(i * w for i, (_, w) in enumerate(voxels, 1)))
+
+
 def main():
+    if sys.argv[1:] == ["--blocks"]:
+        for sums in block_sums():
+            print("%s: %d %d %d" % sums)
+        return
+    if sys.argv[1:]:
+        print("usage: expected.py < SCAN > OUTPUT, or expected.py --blocks", file=sys.stderr)
+        sys.exit(2)
     text, out = sys.stdin.buffer.read(), []
     try:
         config = config_of(line_at(text, 0, 4096))
@@ -286,4 +319,5 @@ def main():
     sys.exit(status)
 
 
-main()
+if __name__ == "__main__":
+    main()
