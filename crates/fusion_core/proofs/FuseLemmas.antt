@@ -6,13 +6,13 @@ use Rattle.std.specs.FinMap.Entries.{below_all}
 use Rattle.std.specs.Ordering.{is_lt}
 use Rattle.std.proofs.lemmas.List.Folds.{list_any-append}
 use Rattle.voxel_block.specs.declared.key.BlockKey.{BlockKey}
-use Rattle.voxel_block.specs.Keys.{key_cmp}
+use Rattle.voxel_block.specs.Keys.{key_cmp, same_key}
 use Rattle.voxel_block.proofs.KeyLaws.{exact_keys, keys_total}
 use Rattle.fuse_kernel.specs.Updates.{updated}
 use Rattle.band_walk.specs.Bands.{band}
 use Rattle.fusion_core.specs.Frames.{Frame, is_active, view}
 use Rattle.fusion_core.specs.Maps.{BlockMap, voxels_at, fuse, need, active_count, touched, all_updated}
-use Rattle.fusion_core.proofs.MapLemmas.{same_key, pairs_of, same_pairs}
+use Rattle.fusion_core.proofs.MapLemmas.{pairs_of, same_pairs}
 use Rattle.fusion_core.proofs.TouchLemmas.{has_all, at_all}
 
 keys_all : (m : BlockMap) (ks : List BlockKey) (q : BlockKey) → list_any (same_key q) (keys (fold touched m ks)) ≡ list_any (same_key q) (keys m ++ ks)

@@ -8,9 +8,9 @@ use Rattle.std.specs.declared.cmp.Ordering.TheVariants.{Less, Equal, Greater}
 use Rattle.std.specs.FinMap.{FinMap, get, keys, entries, entries_sorted, contains_key-keys, find, from_entries, is_sorted, same_map, get-entries, get-from_entries}
 use Rattle.std.specs.FinMap.Entries.{below_all}
 use Rattle.voxel_block.specs.declared.key.BlockKey.{BlockKey}
-use Rattle.voxel_block.specs.Keys.{key_cmp}
+use Rattle.voxel_block.specs.Keys.{key_cmp, same_key}
 use Rattle.voxel_block.proofs.KeyLaws.{exact_keys, keys_total}
-use Rattle.fusion_core.proofs.MapLemmas.{same_key, pairs_of, get-pairs_of}
+use Rattle.fusion_core.proofs.MapLemmas.{pairs_of, get-pairs_of}
 use Rattle.fusion_core.proofs.FuseLemmas.{sorted_pairs, entries_of_sorted}
 
 -- ---- each once

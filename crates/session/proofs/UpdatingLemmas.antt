@@ -7,7 +7,8 @@ use Rattle.std.specs.FinMap.{get, keys, contains_key, contains_key-keys, insert,
 use Rattle.voxel_block.specs.declared.key.BlockKey.{BlockKey}
 use Rattle.voxel_block.specs.declared.voxel.Voxel.{Voxel}
 use Rattle.voxel_block.specs.Blocks.{new_block}
-use Rattle.voxel_block.proofs.KeyLaws.{exact_keys, keys_total}
+use Rattle.voxel_block.specs.Keys.{same_key}
+use Rattle.voxel_block.proofs.KeyLaws.{exact_keys, keys_total, same_key_is}
 use Rattle.block_places.specs.Places.{IsPlaced, Places, blocks_of}
 use Rattle.fuse_kernel.specs.Updates.{updated}
 use Rattle.fuse_kernel.proofs.LawLemmas.{inactive_stays}
@@ -15,7 +16,6 @@ use Rattle.fusion_core.specs.Frames.{Frame, IsFrame, is_active, view}
 use Rattle.fusion_core.specs.Maps.{BlockMap, HasWholeBlocks, voxels_at, all_updated}
 use Rattle.session.specs.Rooms.{StaysInPlace}
 use Rattle.fusion_core.proofs.KeyLemmas.{distinct_keys, not_again, others_distinct}
-use Rattle.fusion_core.proofs.MapLemmas.{same_key, same_key_is}
 use Rattle.fusion_core.proofs.UpdatedLemmas.{get_updated}
 use Rattle.session.proofs.MovingLemmas.{is_first, is_later}
 
