@@ -1,7 +1,7 @@
 -- To touch the blocks of a frame's band, and then to update every block, is to fuse the frame.
 use Rattle.std.proofs.Common.{◌≡◌, T, ◌&&◌, ◌||◌, List, [], ◌∷◌, ◌++◌, map, refl, sym, ap, subst, ◌∙◌}
 use Rattle.std.specs.List.{list_any, fold, count_by}
-use Rattle.std.specs.FinMap.{FinMap, get, keys, entries, entries_sorted, contains_key, from_entries, is_sorted, same_map, get-from_entries, get-from_sorted, entries-from_sorted, contains_key-keys}
+use Rattle.std.specs.FinMap.{FinMap, keys, entries, entries_sorted, from_entries, is_sorted, same_map, get-from_entries, get-from_sorted, entries-from_sorted, contains_key-keys}
 use Rattle.std.specs.FinMap.Entries.{below_all}
 use Rattle.std.specs.Ordering.{is_lt}
 use Rattle.std.proofs.lemmas.List.Folds.{list_any-append}

@@ -50,10 +50,6 @@ pub not_again : (x : BlockKey) (ks : List BlockKey) → IsDistinct same_key (x �
 unfolding IsDistinct
 not_again x ks d = none_equal x ks d.0
 
-pub others_distinct : (x : BlockKey) (ks : List BlockKey) → IsDistinct same_key (x ∷ ks) → IsDistinct same_key ks
-unfolding IsDistinct
-others_distinct x ks d = d.1
-
 -- ---- entries by keys
 
 module _ {X : Type 0} where

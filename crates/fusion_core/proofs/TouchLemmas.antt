@@ -1,9 +1,9 @@
 -- Blocks that are touched: a key that a map lacks gets a new block.
-use Rattle.std.proofs.Common.{◌≡◌, ℕ, ◌+◌, zero, suc, refl, sym, ap, ◌∙◌, arith, List, [], ◌∷◌, ◌++◌, Bool, true, false, cond, ◌||◌, zero-add, add-one}
+use Rattle.std.proofs.Common.{◌≡◌, ℕ, ◌+◌, zero, suc, refl, sym, ap, ◌∙◌, arith, List, [], ◌∷◌, ◌++◌, true, false, cond, ◌||◌, zero-add, add-one}
 use Rattle.std.proofs.Math.Bool.{or-true, or-false, or_assoc}
 use Rattle.std.specs.List.{range_with_len, flat_map, fold, dedup, dedup_from, list_any}
 use Rattle.std.specs.FinMap.{contains_key, get, insert, get-insert}
-use Rattle.std.specs.Prelude.{is_some, unwrap_or, Option, Some, None, IsTrue}
+use Rattle.std.specs.Prelude.{is_some, unwrap_or, Option, Some, None}
 use Rattle.std.proofs.lemmas.List.{append-nil}
 use Rattle.std.proofs.lemmas.List.Sums.{fold-append}
 use Rattle.std.proofs.lemmas.Grind.{flat_map-append}
