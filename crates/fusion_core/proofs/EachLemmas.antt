@@ -9,14 +9,13 @@ use Rattle.std.proofs.lemmas.List.FromFn.{length-enumerate_from}
 use Rattle.voxel_block.specs.declared.key.BlockKey.{BlockKey}
 use Rattle.voxel_block.specs.declared.voxel.Voxel.{Voxel}
 use Rattle.voxel_block.specs.Blocks.{by_index, new_block}
-use Rattle.voxel_block.specs.Keys.{key_cmp}
+use Rattle.voxel_block.specs.Keys.{key_cmp, same_key}
 use Rattle.voxel_block.proofs.Blocks.{length-new_block}
 use Rattle.voxel_block.proofs.KeyLaws.{keys_total}
 use Rattle.fuse_kernel.specs.Updates.{updated}
 use Rattle.band_walk.specs.Bands.{band}
 use Rattle.fusion_core.specs.Frames.{Frame, view}
 use Rattle.fusion_core.specs.Maps.{BlockMap, HasWholeBlocks, touched, all_updated, fuse}
-use Rattle.fusion_core.proofs.MapLemmas.{same_key}
 use Rattle.fusion_core.proofs.FuseLemmas.{fuse_is}
 use Rattle.fusion_core.proofs.UpdatedLemmas.{get_updated}
 

@@ -1,18 +1,18 @@
 -- To touch the blocks of a frame's band, and then to update every block, is to fuse the frame.
 use Rattle.std.proofs.Common.{◌≡◌, T, ◌&&◌, ◌||◌, List, [], ◌∷◌, ◌++◌, map, refl, sym, ap, subst, ◌∙◌}
 use Rattle.std.specs.List.{list_any, fold, count_by}
-use Rattle.std.specs.FinMap.{FinMap, get, keys, entries, entries_sorted, contains_key, from_entries, is_sorted, same_map, get-from_entries, get-from_sorted, entries-from_sorted, contains_key-keys}
+use Rattle.std.specs.FinMap.{FinMap, keys, entries, entries_sorted, from_entries, is_sorted, same_map, get-from_entries, get-from_sorted, entries-from_sorted, contains_key-keys}
 use Rattle.std.specs.FinMap.Entries.{below_all}
 use Rattle.std.specs.Ordering.{is_lt}
 use Rattle.std.proofs.lemmas.List.Folds.{list_any-append}
 use Rattle.voxel_block.specs.declared.key.BlockKey.{BlockKey}
-use Rattle.voxel_block.specs.Keys.{key_cmp}
+use Rattle.voxel_block.specs.Keys.{key_cmp, same_key}
 use Rattle.voxel_block.proofs.KeyLaws.{exact_keys, keys_total}
 use Rattle.fuse_kernel.specs.Updates.{updated}
 use Rattle.band_walk.specs.Bands.{band}
 use Rattle.fusion_core.specs.Frames.{Frame, is_active, view}
 use Rattle.fusion_core.specs.Maps.{BlockMap, voxels_at, fuse, need, active_count, touched, all_updated}
-use Rattle.fusion_core.proofs.MapLemmas.{same_key, pairs_of, same_pairs}
+use Rattle.fusion_core.proofs.MapLemmas.{pairs_of, same_pairs}
 use Rattle.fusion_core.proofs.TouchLemmas.{has_all, at_all}
 
 keys_all : (m : BlockMap) (ks : List BlockKey) (q : BlockKey) → list_any (same_key q) (keys (fold touched m ks)) ≡ list_any (same_key q) (keys m ++ ks)

@@ -1,5 +1,5 @@
 -- A frame is offered and judged.
-use Rattle.std.proofs.Common.{◌≡◌, ℕ, ◌<◌, ◌≤◌, false, true, cond, nat_le, sym, ap, subst, ◌∙◌, arith}
+use Rattle.std.proofs.Common.{◌≡◌, ℕ, ◌<◌, ◌≤◌, false, true, cond, nat_le, ap, ◌∙◌, arith}
 use Rattle.std.specs.Prelude.{pos, Result, Ok, Err}
 use Rattle.std.specs.Ordering.{int_eq}
 use Rattle.std.proofs.lemmas.Bool.{and_parts}
@@ -15,7 +15,7 @@ use Rattle.fusion_core.specs.declared.settings.Settings.{Settings}
 use Rattle.fusion_core.specs.declared.refusal.Refusal.{Refusal}
 use Rattle.fusion_core.specs.declared.refusal.Refusal.TheVariants.{Size, BadPose as bad_pose, HeapSpent}
 use Rattle.fusion_core.specs.Frames.{Frame, IsFrame}
-use Rattle.fusion_core.specs.Maps.{BlockMap, need}
+use Rattle.fusion_core.specs.Maps.{need}
 use Rattle.fusion_core.specs.Fold.{State, frame_of, has_size, offered, posed, with_room, judged}
 
 -- what is made of a pose and a depth map of the right sides is a frame

@@ -8,9 +8,9 @@ use Rattle.std.specs.declared.cmp.Ordering.TheVariants.{Less, Equal, Greater}
 use Rattle.std.specs.FinMap.{FinMap, get, keys, entries, entries_sorted, contains_key-keys, find, from_entries, is_sorted, same_map, get-entries, get-from_entries}
 use Rattle.std.specs.FinMap.Entries.{below_all}
 use Rattle.voxel_block.specs.declared.key.BlockKey.{BlockKey}
-use Rattle.voxel_block.specs.Keys.{key_cmp}
+use Rattle.voxel_block.specs.Keys.{key_cmp, same_key}
 use Rattle.voxel_block.proofs.KeyLaws.{exact_keys, keys_total}
-use Rattle.fusion_core.proofs.MapLemmas.{same_key, pairs_of, get-pairs_of}
+use Rattle.fusion_core.proofs.MapLemmas.{pairs_of, get-pairs_of}
 use Rattle.fusion_core.proofs.FuseLemmas.{sorted_pairs, entries_of_sorted}
 
 -- ---- each once
@@ -49,10 +49,6 @@ none_equal x (k ∷ ks) a = (λ i. a.0 i || list_any (same_key x) ks) ∙ none_e
 pub not_again : (x : BlockKey) (ks : List BlockKey) → IsDistinct same_key (x ∷ ks) → list_any (same_key x) ks ≡ false
 unfolding IsDistinct
 not_again x ks d = none_equal x ks d.0
-
-pub others_distinct : (x : BlockKey) (ks : List BlockKey) → IsDistinct same_key (x ∷ ks) → IsDistinct same_key ks
-unfolding IsDistinct
-others_distinct x ks d = d.1
 
 -- ---- entries by keys
 

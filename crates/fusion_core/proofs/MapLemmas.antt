@@ -1,21 +1,12 @@
 -- A map that gives each of its keys a value by a rule.
-use Rattle.std.proofs.Common.{◌≡◌, Bool, true, false, cond, ◌||◌, List, [], ◌∷◌, map, refl, sym, ap, ◌∙◌}
+use Rattle.std.proofs.Common.{◌≡◌, true, false, cond, ◌||◌, List, [], ◌∷◌, map, refl, sym, ap, ◌∙◌}
 use Rattle.std.specs.Prelude.{Option, Some, None, is_some, unwrap_or}
 use Rattle.std.specs.Option.{option_map}
 use Rattle.std.specs.List.{list_any}
-use Rattle.std.specs.Ordering.{eq_by_cmp}
-use Rattle.std.specs.Cmp.{Equal-is}
 use Rattle.std.specs.FinMap.{get, from_entries, find, get-from_entries, same_map}
 use Rattle.voxel_block.specs.declared.key.BlockKey.{BlockKey}
-use Rattle.voxel_block.specs.Keys.{key_cmp}
-use Rattle.voxel_block.proofs.KeyLaws.{exact_keys, keys_total}
-
--- whether two keys are the same
-abbrev pub same_key : BlockKey → BlockKey → Bool
-same_key = eq_by_cmp key_cmp
-
-pub same_key_is : (a b : BlockKey) → same_key a b ≡ true → a ≡ b
-same_key_is a b e = exact_keys a b ((Equal-is (key_cmp a b)).0 e)
+use Rattle.voxel_block.specs.Keys.{key_cmp, same_key}
+use Rattle.voxel_block.proofs.KeyLaws.{exact_keys, keys_total, same_key_is}
 
 module _ {X : Type 0} where
   -- the entries that a rule gives to keys

@@ -8,9 +8,10 @@ use Rattle.std.proofs.lemmas.List.Elements.{All-replicate}
 use Rattle.std.proofs.lemmas.Map.Views.{Contains-from_any}
 use Rattle.fixed_geom.specs.Poses.{Pose}
 use Rattle.voxel_block.specs.declared.key.BlockKey.{BlockKey}
-use Rattle.voxel_block.specs.Keys.{key_cmp}
+use Rattle.voxel_block.specs.Keys.{key_cmp, same_key}
 use Rattle.voxel_block.specs.Blocks.{new_block}
 use Rattle.voxel_block.specs.Voxels.{new_voxel}
+use Rattle.voxel_block.proofs.KeyLaws.{same_key_is}
 use Rattle.camera.specs.declared.camera.CameraFields.{CameraFields}
 use Rattle.scan_io.specs.Reading.{saturated}
 use Rattle.camera.specs.Visibility.{IsInReach}
@@ -25,7 +26,6 @@ use Rattle.fusion_core.specs.Fold.{State, start, fused}
 use Rattle.fusion_core.specs.Laws.{HasKeysInReach, HasMapWeightsWithin, IsSound}
 use Rattle.fusion_core.proofs.EachLemmas.{each_empty, each_fused, whole_fused}
 use Rattle.fusion_core.proofs.FuseLemmas.{fuse_is}
-use Rattle.fusion_core.proofs.MapLemmas.{same_key, same_key_is}
 use Rattle.fusion_core.proofs.TouchLemmas.{has_all}
 use Rattle.fusion_core.proofs.UpdatedLemmas.{has_updated}
 

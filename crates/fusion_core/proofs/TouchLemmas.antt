@@ -1,19 +1,18 @@
 -- Blocks that are touched: a key that a map lacks gets a new block.
-use Rattle.std.proofs.Common.{◌≡◌, ℕ, ◌+◌, zero, suc, refl, sym, ap, ◌∙◌, arith, List, [], ◌∷◌, ◌++◌, Bool, true, false, cond, ◌||◌, zero-add, add-one}
+use Rattle.std.proofs.Common.{◌≡◌, ℕ, ◌+◌, zero, suc, refl, sym, ap, ◌∙◌, arith, List, [], ◌∷◌, ◌++◌, true, false, cond, ◌||◌, zero-add, add-one}
 use Rattle.std.proofs.Math.Bool.{or-true, or-false, or_assoc}
 use Rattle.std.specs.List.{range_with_len, flat_map, fold, dedup, dedup_from, list_any}
 use Rattle.std.specs.FinMap.{contains_key, get, insert, get-insert}
-use Rattle.std.specs.Prelude.{is_some, unwrap_or, Option, Some, None, IsTrue}
-use Rattle.std.specs.Cmp.{eq_by_cmp_equiv}
+use Rattle.std.specs.Prelude.{is_some, unwrap_or, Option, Some, None}
 use Rattle.std.proofs.lemmas.List.{append-nil}
 use Rattle.std.proofs.lemmas.List.Sums.{fold-append}
 use Rattle.std.proofs.lemmas.Grind.{flat_map-append}
 use Rattle.voxel_block.specs.declared.key.BlockKey.{BlockKey}
 use Rattle.voxel_block.specs.declared.voxel.Voxel.{Voxel}
 use Rattle.voxel_block.specs.Blocks.{new_block}
-use Rattle.voxel_block.proofs.KeyLaws.{keys_total}
+use Rattle.voxel_block.specs.Keys.{same_key}
+use Rattle.voxel_block.proofs.KeyLaws.{key_itself, keys_total, same_key_is}
 use Rattle.fusion_core.specs.Maps.{BlockMap, touched, voxels_at}
-use Rattle.fusion_core.proofs.MapLemmas.{same_key, same_key_is}
 
 -- ---- folds over the first indices
 
@@ -81,7 +80,7 @@ at_all m (b ∷ ks) q = at_all (touched m b) ks q ∙ at_touched m b q
 -- to touch a block that is there changes nothing
 touched_twice : (m : BlockMap) (b : BlockKey) → touched (touched m b) b ≡ touched m b
 touched_twice m b = ap (λ c. cond c (touched m b) (insert (touched m b) b new_block))
-    (has_touched m b b ∙ ap (λ t. contains_key m b || t) ((eq_by_cmp_equiv keys_total).refl b) ∙ or-true (contains_key m b))
+    (has_touched m b b ∙ ap (λ t. contains_key m b || t) (key_itself b) ∙ or-true (contains_key m b))
 
 -- so a list may leave out each key that is equal to the one just before
 touched_from : (m : BlockMap) (k : BlockKey) (ks : List BlockKey) → fold touched m (dedup_from same_key k ks) ≡ fold touched (touched m k) ks

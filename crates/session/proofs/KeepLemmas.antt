@@ -1,17 +1,16 @@
 -- Slots stay while others are touched.
 use Rattle.std.proofs.Common.{◌≡◌, Bool, true, false, cond, refl, sym, subst, ap, ◌∙◌}
 use Rattle.std.specs.Prelude.{Option, Some, None, is_some, IsTrue}
-use Rattle.std.specs.FinMap.{get, contains_key, insert, retain_keys, get-insert, get-retain_keys, same_map}
+use Rattle.std.specs.FinMap.{get, contains_key, insert, retain_keys, get-retain_keys, same_map}
 use Rattle.voxel_block.specs.declared.key.BlockKey.{BlockKey}
 use Rattle.voxel_block.specs.Blocks.{new_block}
-use Rattle.voxel_block.proofs.KeyLaws.{keys_total, exact_keys}
+use Rattle.voxel_block.proofs.KeyLaws.{exact_keys, keys_total, put_elsewhere}
 use Rattle.spatial_hash.specs.Contents.{contents}
 use Rattle.block_places.specs.Places.{IsPlaced, Places, Slots, blocks_of, touched}
 use Rattle.block_places.proofs.Blocks.{has-blocks}
 use Rattle.block_places.proofs.Keeping.{alike}
 use Rattle.block_places.proofs.Moves.{with_slots}
 use Rattle.session.specs.Rooms.{KeepsSlots}
-use Rattle.fusion_core.proofs.MapLemmas.{same_key, same_key_is}
 
 pub keeps_same : (m n : Places) → n ≡ m → KeepsSlots m n
 keeps_same m n e = record { table = ap (λ (p : Places). p.table) e; heap = ap (λ (p : Places). p.heap) e; slots = λ b h. ap (λ (p : Places). get p.slots b) e }
@@ -25,11 +24,7 @@ keeps_more m n o first second = record {
 
 -- a block that was put in the slot of a key that had none
 kept_beside : (s : Slots) (b q : BlockKey) → contains_key s b ≡ false → IsTrue (contains_key s q) → get (insert s b (Some new_block)) q ≡ get s q
-kept_beside s b q lacked had = get-insert keys_total s b (Some new_block) q
-    ∙ elim (same_key q b) as (λ t. same_key q b ≡ t → cond t (Some (Some new_block)) (get s q) ≡ get s q) [
-      | true ↦ λ e. absurd (let is : true ≡ false = sym had ∙ ap (contains_key s) (same_key_is q b e) ∙ lacked in cc)
-      | false ↦ λ e. refl
-    ] refl
+kept_beside s b q lacked had = put_elsewhere s b q (Some new_block) (λ e. (let is : true ≡ false = sym had ∙ ap (contains_key s) e ∙ lacked in absurd (cc)))
 
 keeps_touch : (p : Places) (b : BlockKey) → KeepsSlots p (touched p b)
 keeps_touch p b =

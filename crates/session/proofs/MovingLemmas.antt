@@ -6,8 +6,8 @@ use Rattle.std.specs.List.{list_any, count_by, filter}
 use Rattle.std.specs.FinMap.{FinMap, get, keys, len, contains_key, contains_key-keys, insert, remove, get-insert, get-remove}
 use Rattle.std.proofs.lemmas.Map.Made.{length-le_from_is_member, is_member-filter}
 use Rattle.voxel_block.specs.declared.key.BlockKey.{BlockKey}
-use Rattle.voxel_block.specs.Keys.{key_cmp}
-use Rattle.voxel_block.proofs.KeyLaws.{keys_total}
+use Rattle.voxel_block.specs.Keys.{key_cmp, same_key}
+use Rattle.voxel_block.proofs.KeyLaws.{key_itself, keys_total, same_key_is}
 use Rattle.spatial_hash.specs.Contents.{contents}
 use Rattle.block_places.specs.Places.{IsPlaced, Places, blocks_of}
 use Rattle.block_places.proofs.Blocks.{has-blocks}
@@ -17,7 +17,6 @@ use Rattle.fusion_core.specs.Frames.{is_active}
 use Rattle.fusion_core.specs.Maps.{active_count}
 use Rattle.session.specs.Rooms.{Moves, leaves}
 use Rattle.fusion_core.proofs.KeyLemmas.{distinct_keys}
-use Rattle.fusion_core.proofs.MapLemmas.{same_key, same_key_is}
 use Rattle.session.proofs.CountLemmas.{count_by-cons, count_keys}
 
 -- ---- one key
@@ -80,7 +79,7 @@ or_true true = refl
 or_true false = refl
 
 pub is_first : (k : BlockKey) (ks rest : List BlockKey) → ks ≡ k ∷ rest → list_any (same_key k) ks ≡ true
-is_first k ks rest is = among k k ks rest true is ((eq_by_cmp_equiv keys_total).refl k)
+is_first k ks rest is = among k k ks rest true is (key_itself k)
 
 pub is_later : (q k : BlockKey) (ks rest : List BlockKey) → ks ≡ k ∷ rest → list_any (same_key q) rest ≡ true → list_any (same_key q) ks ≡ true
 is_later q k ks rest is h = ap (list_any (same_key q)) is ∙ ap (λ t. same_key q k || t) h ∙ or_true (same_key q k)

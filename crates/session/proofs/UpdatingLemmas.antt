@@ -4,18 +4,19 @@ use Rattle.std.specs.Prelude.{Option, Some, None, is_some, unwrap_or}
 use Rattle.std.specs.Option.{option_map}
 use Rattle.std.specs.List.{list_any, IsDistinct}
 use Rattle.std.specs.FinMap.{get, keys, contains_key, contains_key-keys, insert, same_map, get-insert}
+use Rattle.std.proofs.lemmas.Map.Keys.{IsDistinct-tail}
 use Rattle.voxel_block.specs.declared.key.BlockKey.{BlockKey}
 use Rattle.voxel_block.specs.declared.voxel.Voxel.{Voxel}
 use Rattle.voxel_block.specs.Blocks.{new_block}
-use Rattle.voxel_block.proofs.KeyLaws.{exact_keys, keys_total}
+use Rattle.voxel_block.specs.Keys.{same_key}
+use Rattle.voxel_block.proofs.KeyLaws.{exact_keys, keys_total, same_key_is}
 use Rattle.block_places.specs.Places.{IsPlaced, Places, blocks_of}
 use Rattle.fuse_kernel.specs.Updates.{updated}
 use Rattle.fuse_kernel.proofs.LawLemmas.{inactive_stays}
 use Rattle.fusion_core.specs.Frames.{Frame, IsFrame, is_active, view}
 use Rattle.fusion_core.specs.Maps.{BlockMap, HasWholeBlocks, voxels_at, all_updated}
 use Rattle.session.specs.Rooms.{StaysInPlace}
-use Rattle.fusion_core.proofs.KeyLemmas.{distinct_keys, not_again, others_distinct}
-use Rattle.fusion_core.proofs.MapLemmas.{same_key, same_key_is}
+use Rattle.fusion_core.proofs.KeyLemmas.{distinct_keys, not_again}
 use Rattle.fusion_core.proofs.UpdatedLemmas.{get_updated}
 use Rattle.session.proofs.MovingLemmas.{is_first, is_later}
 
@@ -60,7 +61,7 @@ updating_put f p r s k ks rest x is stays put =
     let first = is_first k ks rest is in
     let again : list_any (same_key k) rest ≡ false = not_again k rest apart in record {
       stays = stays_more p r s x.stays stays;
-      distinct = others_distinct k rest apart;
+      distinct = IsDistinct-tail same_key k rest apart;
       known = λ q h. x.known q (is_later q k ks rest is h);
       todo = λ q h. now q ∙
           elim (same_key q k) as (λ t. same_key q k ≡ t → cond t (Some (updated (view f) f.max_weight k (voxels_at (blocks_of r) k))) (get (blocks_of r) q) ≡ get (blocks_of p) q) [
@@ -90,7 +91,7 @@ updating_left : (f : Frame) (p r s : Places) (k : BlockKey) (ks rest : List Bloc
     → blocks_of s ≡ blocks_of r → Updating f p s rest
 updating_left f p r s k ks rest frame whole inactive x is stays same = record {
   stays = stays_more p r s x.stays stays;
-  distinct = others_distinct k rest (subst (IsDistinct same_key) is x.distinct);
+  distinct = IsDistinct-tail same_key k rest (subst (IsDistinct same_key) is x.distinct);
   known = λ q h. x.known q (is_later q k ks rest is h);
   todo = λ q h. now q ∙ x.todo q (is_later q k ks rest is h);
   done = λ q h. now q ∙

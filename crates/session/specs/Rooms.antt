@@ -2,9 +2,7 @@
 use Rattle.std.specs.Prelude.{◌≡◌, ◌≤◌, ◌&&◌, not, Bool, IsTrue, length}
 use Rattle.std.specs.FinMap.{get, contains_key, keys}
 use Rattle.std.specs.List.{count_by}
-use Rattle.std.specs.Ordering.{eq_by_cmp}
 use Rattle.voxel_block.specs.declared.key.BlockKey.{BlockKey}
-use Rattle.voxel_block.specs.Keys.{key_cmp}
 use Rattle.spatial_hash.specs.Contents.{contents}
 use Rattle.spatial_hash.specs.Table.{KeepsSize}
 use Rattle.block_places.specs.Places.{IsPlaced, Places, blocks_of}
@@ -47,7 +45,3 @@ pub record StaysInPlace (old new : Places) : Type 0 where
   pub table : new.table ≡ old.table
   pub cells : length new.heap.cells ≡ length old.heap.cells
   pub placed : IsPlaced new
-
--- whether two keys are one
-abbrev pub same_key : (a b : BlockKey) → Bool
-same_key = eq_by_cmp key_cmp

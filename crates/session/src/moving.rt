@@ -2,11 +2,12 @@ ghost use Rattle.std.specs.Prelude.{◌≡◌, ◌≤◌, ◌<◌, ◌+◌, ◌&
 ghost use Rattle.std.specs.FinMap.{contains_key, keys as keys_of};
 ghost use Rattle.std.specs.List.{count_by};
 ghost use Rattle.voxel_block.specs.declared.key.BlockKey.{BlockKey as Key};
+ghost use Rattle.voxel_block.specs.Keys.{same_key};
 ghost use Rattle.spatial_hash.specs.Contents.{contents};
 ghost use Rattle.block_places.specs.Places.{IsPlaced, blocks_of};
 ghost use Rattle.fusion_core.specs.Frames.{is_active};
 ghost use Rattle.fusion_core.specs.Maps.{active_count};
-ghost use Rattle.session.specs.Rooms.{Moves, enters as enters_by, leaves as leaves_by, same_key};
+ghost use Rattle.session.specs.Rooms.{Moves, enters as enters_by, leaves as leaves_by};
 
 use crate::room::leaves;
 use block_places::Places;

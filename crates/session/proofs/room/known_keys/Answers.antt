@@ -1,22 +1,18 @@
 use Rattle.std.proofs.Common.{◌≡◌, ◌||◌, Bool, true, false, cond, sym, ap, ◌∙◌, refl}
+use Rattle.std.proofs.Math.Bool.{or-false}
 use Rattle.std.specs.List.{list_any}
 use Rattle.std.specs.Cmp.{eq_by_cmp_equiv}
 use Rattle.std.specs.BTreeSet.{contains}
 use Rattle.std.specs.FinMap.{contains_key-keys}
-use Rattle.voxel_block.specs.Keys.{key_cmp}
+use Rattle.voxel_block.specs.Keys.{key_cmp, same_key}
 use Rattle.voxel_block.proofs.KeyLaws.{keys_total}
 use Rattle.block_places.specs.Places.{blocks_of}
-use Rattle.fusion_core.proofs.MapLemmas.{same_key}
 use Rattle.session.proofs.room.known_keys.Goals as goal
 
 put : (is had rest : Bool) → (cond is true had || rest) ≡ (had || (is || rest))
 put true true rest = refl
 put true false rest = refl
 put false had rest = refl
-
-none_left : (b : Bool) → b ≡ (b || false)
-none_left true = refl
-none_left false = refl
 
 pub loop-key-init : goal.loop-key-init
 loop-key-init c = λ q.
@@ -36,6 +32,6 @@ loop-key-preserved c = λ q.
 
 pub returns-clause-known : goal.returns-clause-known
 returns-clause-known c = λ q.
-    none_left (contains key_cmp c.loop-key.known q)
+    sym (or-false (contains key_cmp c.loop-key.known q))
     ∙ ap (λ ks. contains key_cmp c.loop-key.known q || list_any (same_key q) ks) (sym c.in-None.ensures.steps.0)
     ∙ c.loop-key.invariant q
