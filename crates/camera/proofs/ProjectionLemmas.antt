@@ -160,10 +160,6 @@ rows k p r w h = let e = fields_read k r in record { front = h; f_read = e.fy; c
 axis_is : (f c x z w s : ℤ) → IsAxis f c x z w → SFits w64 s → s ≡ floor_div (read f *ℤ read x +ℤ read c *ℤ read z +ℤ pos 32768 *ℤ read z) (pos 65536) → floor_div (read s) (read z) ≡ pixel_axis f c x z
 axis_is f c x z w s a fits is = rw (to_z-of_z w64 s fits, is, a.f_read, a.c_read, a.x_read, a.z_read, pixel_is f c x z a.front) refl
 
--- a quotient that passed its test is at most 2047
-pub quotient_high : (b : Bool) (q w : ℤ) → read w ≡ w → w ≤ℤ pos 2048 → b ≡ within (pos 0) (read w -ℤ pos 1) q → b ≡ true → q ≤ℤ pos 2047
-quotient_high b q w ew h e t = let p = within_parts (pos 0) (read w -ℤ pos 1) q (sym e ∙ t) in omega (arith, ints, p.1, ew)
-
 -- a coordinate that passed its test is below the size
 pub below_read : (b : Bool) (n : ℕ) (q w : ℤ) → read w ≡ w → pos n ≡ q → b ≡ within (pos 0) (read w -ℤ pos 1) q → b ≡ true → pos n <ℤ w
 below_read b n q w ew is e t = let p = within_parts (pos 0) (read w -ℤ pos 1) q (sym e ∙ t) in omega (arith, ints, p.1, ew)

@@ -4,6 +4,7 @@ ghost use Rattle.fusion_cli.specs.Status.{text_of, refused_text, offset_text as 
 use depth_frame::PgmKind;
 use scan_lang::{BadConfig, BadScan, BadWhat};
 use std::alloc::{AllocError, Global};
+use std::fmt;
 use voxel_block::NoMemory;
 
 /// How a run ended.
@@ -47,6 +48,19 @@ impl Status {
         match written(alloc, self) {
             Ok(line) => Ok(line),
             Err(_) => Err(NoMemory),
+        }
+    }
+}
+
+impl fmt::Display for Status {
+    fn fmt<W: fmt::Write>(&self, f: &mut fmt::Formatter<W>) -> fmt::Result {
+        match self {
+            Status::Done => write!(f, "done"),
+            Status::NoMemory => write!(f, "out of memory"),
+            Status::Usage => write!(f, "the words are no command"),
+            Status::BadScan(why) => write!(f, "the scan is refused: {why}"),
+            Status::ReadFault => write!(f, "a read failed"),
+            Status::WriteFault => write!(f, "a write failed"),
         }
     }
 }

@@ -43,7 +43,11 @@ fn scan(config: Vec<u8>, shots: &[Shot], more: &str) -> Result<Vec<u8>, Fail> {
     let mut text = config;
     for (far, sample) in shots {
         text.extend_from_slice(b"frame 1 0 0 ")?;
-        text.extend_from_slice(if *far { b"50".as_slice() } else { b"0".as_slice() })?;
+        text.extend_from_slice(if *far {
+            b"50".as_slice()
+        } else {
+            b"0".as_slice()
+        })?;
         text.extend_from_slice(b" 0 1 0 0 0 0 1 0\nP5\n1 1\n65535\n")?;
         text.extend_from_slice(sample)?;
     }
@@ -75,8 +79,24 @@ fn refused(at: u64, what: BadWhat) -> Status {
 fn scans_are_answered(rt: HostRuntime) -> Result<(), Fail> {
     let alloc = rt.alloc();
     let table: [(&str, &str, &str, &[Shot], &str, &str, Status); 24] = [
-        ("a scan without records", "", "", &[], END, END, Status::Done),
-        ("bytes after the end", "", "", &[], "end\nwhat stands behind it", END, Status::Done),
+        (
+            "a scan without records",
+            "",
+            "",
+            &[],
+            END,
+            END,
+            Status::Done,
+        ),
+        (
+            "bytes after the end",
+            "",
+            "",
+            &[],
+            "end\nwhat stands behind it",
+            END,
+            Status::Done,
+        ),
         (
             "depths that are not valid",
             "",
@@ -205,8 +225,24 @@ fn scans_are_answered(rt: HostRuntime) -> Result<(), Fail> {
         ),
         // Refusals.
         ("no end", "", "", &[], "", "", refused(233, BadWhat::Short)),
-        ("an end without a line feed", "", "", &[WALL], "end", ONE_FRAME, refused(281, BadWhat::Short)),
-        ("a word that is no record's", "", "", &[], "frames 1\n", "", refused(233, BadWhat::Line)),
+        (
+            "an end without a line feed",
+            "",
+            "",
+            &[WALL],
+            "end",
+            ONE_FRAME,
+            refused(281, BadWhat::Short),
+        ),
+        (
+            "a word that is no record's",
+            "",
+            "",
+            &[],
+            "frames 1\n",
+            "",
+            refused(233, BadWhat::Line),
+        ),
         (
             "a word that is no number",
             "",
@@ -320,7 +356,10 @@ fn an_8_bit_depth_map_is_scaled_by_the_unit(rt: HostRuntime) -> Result<(), Fail>
     text.extend_from_slice(b"P5 2 1 255 \xc8\xc8end\n")?;
     let (status, sink) = run_on(alloc, text, 7, Vec::new(alloc), Vec::new(alloc))?;
     assert_eq!(rt; status, Status::Done);
-    assert_eq!(rt; sink.bytes(), b"frame 1 blocks 2 resident 2\nframe refused size\nend\n".as_slice());
+    assert_eq!(rt;
+        sink.bytes(),
+        b"frame 1 blocks 2 resident 2\nframe refused size\nend\n".as_slice()
+    );
     Ok(())
 }
 
@@ -328,7 +367,8 @@ fn an_8_bit_depth_map_is_scaled_by_the_unit(rt: HostRuntime) -> Result<(), Fail>
 #[test]
 fn turned_views_are_fused(rt: HostRuntime) -> Result<(), Fail> {
     let alloc = rt.alloc();
-    let text = b"{\"version\":1,\"width\":8,\"height\":6,\"fx\":20971520,\"fy\":19922944,\"cx\":229376,\"cy\":163840,\"unit\":10000,\"near\":500000,\"far\":1300000,\"voxel\":10000,\"mu\":25000,\"max_weight\":2,\"radius\":833626,\"centre\":662500,\"heap_blocks\":24,\"buckets\":4,\"empty_f\":30000}
+    let text =
+        b"{\"version\":1,\"width\":8,\"height\":6,\"fx\":20971520,\"fy\":19922944,\"cx\":229376,\"cy\":163840,\"unit\":10000,\"near\":500000,\"far\":1300000,\"voxel\":10000,\"mu\":25000,\"max_weight\":2,\"radius\":833626,\"centre\":662500,\"heap_blocks\":24,\"buckets\":4,\"empty_f\":30000}
 frame 0.939692621 -0.059391175 0.336824089 -0.293824  0.000000000 0.984807753 0.173648178 -0.137648  -0.342020143 -0.163175911 0.925416578 0.044583
 P5 8 6 255
 ddddeeeeddddeeefccdddeeecccddd.ecccdddeebccdddee
@@ -343,7 +383,8 @@ cdcdcdcddcdcdcdccdcdcdcddcdAdcdccdcdcdcdeeeeeeee
 sum
 voxels
 end
-".to_vec(alloc)?;
+"
+            .to_vec(alloc)?;
     let begins = b"frame 1 blocks 2 resident 2
 sum blocks 2 known 59 weight 59 distance 1047871
 frame 2 blocks 2 resident 2
@@ -352,13 +393,15 @@ frame 3 blocks 4 resident 4
 sum blocks 4 known 128 weight 143 distance 2539558
 voxels 4 128
 0 1 88 32767 1
-".as_slice();
+"
+        .as_slice();
     let ends = b"
 1 24 68 32767 1
 2 24 68 32767 1
 1 24 69 32767 1
 end
-".as_slice();
+"
+        .as_slice();
     let (status, sink) = run_on(alloc, text, 7, Vec::new(alloc), Vec::new(alloc))?;
     assert_eq!(rt; status, Status::Done);
     assert_eq!(rt; sink.bytes().len(), 2196);
@@ -373,18 +416,92 @@ fn a_fault_leaves_whole_replies(rt: HostRuntime) -> Result<(), Fail> {
     let shots = [WALL, FAR_WALL, WALL];
     for (name, heap, piece, read_fail, write_fail, end, wanted) in [
         // The first piece of 300 bytes ends in the middle of the second frame.
-        ("a read of the second frame", "\"heap_blocks\":64", 300, 1, 99, Status::ReadFault, ONE_FRAME),
-        ("a write of the second reply", "\"heap_blocks\":2", 4096, 99, 1, Status::WriteFault, ONE_FRAME),
+        (
+            "a read of the second frame",
+            "\"heap_blocks\":64",
+            300,
+            1,
+            99,
+            Status::ReadFault,
+            ONE_FRAME,
+        ),
+        (
+            "a write of the second reply",
+            "\"heap_blocks\":2",
+            4096,
+            99,
+            1,
+            Status::WriteFault,
+            ONE_FRAME,
+        ),
         // By pieces of one byte a call has the number of its byte: the first frame is the bytes 233 to 277.
-        ("a read of the configuration", "\"heap_blocks\":64", 1, 7, 99, Status::ReadFault, ""),
-        ("a read of the frame's line", "\"heap_blocks\":64", 1, 240, 99, Status::ReadFault, ""),
-        ("a read of the depth map's header", "\"heap_blocks\":64", 1, 266, 99, Status::ReadFault, ""),
-        ("a read of its first sample byte", "\"heap_blocks\":64", 1, 276, 99, Status::ReadFault, ""),
-        ("a read of its last byte", "\"heap_blocks\":64", 1, 277, 99, Status::ReadFault, ""),
-        ("a read after it", "\"heap_blocks\":64", 1, 278, 99, Status::ReadFault, ONE_FRAME),
+        (
+            "a read of the configuration",
+            "\"heap_blocks\":64",
+            1,
+            7,
+            99,
+            Status::ReadFault,
+            "",
+        ),
+        (
+            "a read of the frame's line",
+            "\"heap_blocks\":64",
+            1,
+            240,
+            99,
+            Status::ReadFault,
+            "",
+        ),
+        (
+            "a read of the depth map's header",
+            "\"heap_blocks\":64",
+            1,
+            266,
+            99,
+            Status::ReadFault,
+            "",
+        ),
+        (
+            "a read of its first sample byte",
+            "\"heap_blocks\":64",
+            1,
+            276,
+            99,
+            Status::ReadFault,
+            "",
+        ),
+        (
+            "a read of its last byte",
+            "\"heap_blocks\":64",
+            1,
+            277,
+            99,
+            Status::ReadFault,
+            "",
+        ),
+        (
+            "a read after it",
+            "\"heap_blocks\":64",
+            1,
+            278,
+            99,
+            Status::ReadFault,
+            ONE_FRAME,
+        ),
     ] {
-        let text = scan(config(alloc, "\"heap_blocks\":64", heap)?, &shots, "sum\nend\n")?;
-        let (status, sink) = run_on(alloc, text, piece, vec![in alloc; read_fail]?, vec![in alloc; write_fail]?)?;
+        let text = scan(
+            config(alloc, "\"heap_blocks\":64", heap)?,
+            &shots,
+            "sum\nend\n",
+        )?;
+        let (status, sink) = run_on(
+            alloc,
+            text,
+            piece,
+            vec![in alloc; read_fail]?,
+            vec![in alloc; write_fail]?,
+        )?;
         assert_eq!(rt; status, end, "{name}");
         assert_eq!(rt; sink.bytes(), wanted.as_bytes(), "{name}");
     }
@@ -406,13 +523,55 @@ fn the_program_reports_its_status(rt: HostRuntime) -> Result<(), Fail> {
     let not_text = Err(Error::from(ErrorKind::InvalidData));
     let no_room = Err(Error::from(ErrorKind::OutOfMemory));
     for (name, given, text, code, line) in [
-        ("fuse", Ok(args(alloc, &["fusion", "fuse"])?), BASE, 3, "fusion: scan refused at byte 233: short\n"),
-        ("no words", Ok(args(alloc, &["fusion"])?), BASE, 2, "fusion: usage: fuse\n"),
-        ("not even a name", Ok(args(alloc, &[])?), BASE, 2, "fusion: usage: fuse\n"),
-        ("another word", Ok(args(alloc, &["fuse", "fusion"])?), BASE, 2, "fusion: usage: fuse\n"),
-        ("a word too many", Ok(args(alloc, &["fusion", "fuse", "fuse"])?), BASE, 2, "fusion: usage: fuse\n"),
-        ("a word that is no UTF-8", not_text, BASE, 2, "fusion: usage: fuse\n"),
-        ("words that don't fit the memory", no_room, BASE, 1, "fusion: no memory\n"),
+        (
+            "fuse",
+            Ok(args(alloc, &["fusion", "fuse"])?),
+            BASE,
+            3,
+            "fusion: scan refused at byte 233: short\n",
+        ),
+        (
+            "no words",
+            Ok(args(alloc, &["fusion"])?),
+            BASE,
+            2,
+            "fusion: usage: fuse\n",
+        ),
+        (
+            "not even a name",
+            Ok(args(alloc, &[])?),
+            BASE,
+            2,
+            "fusion: usage: fuse\n",
+        ),
+        (
+            "another word",
+            Ok(args(alloc, &["fuse", "fusion"])?),
+            BASE,
+            2,
+            "fusion: usage: fuse\n",
+        ),
+        (
+            "a word too many",
+            Ok(args(alloc, &["fusion", "fuse", "fuse"])?),
+            BASE,
+            2,
+            "fusion: usage: fuse\n",
+        ),
+        (
+            "a word that is no UTF-8",
+            not_text,
+            BASE,
+            2,
+            "fusion: usage: fuse\n",
+        ),
+        (
+            "words that don't fit the memory",
+            no_room,
+            BASE,
+            1,
+            "fusion: no memory\n",
+        ),
     ] {
         let mut source = MemSource::make(text.as_bytes().to_vec(alloc)?, 7, Vec::new(alloc));
         let mut sink = MemSink::make(alloc, 64, 7, Vec::new(alloc))?;

@@ -54,7 +54,7 @@ impl fmt::Display for BadWhat {
             BadWhat::Config(why) => write!(f, "bad configuration: {why}"),
             BadWhat::Line => write!(f, "the line is not a record"),
             BadWhat::Number => write!(f, "the word is not a number, or is out of range"),
-            BadWhat::Pgm(kind) => write!(f, "bad depth map: {kind:?}"),
+            BadWhat::Pgm(kind) => write!(f, "{kind}"),
             BadWhat::Short => write!(f, "the scan ends too early"),
             BadWhat::Long => write!(f, "the line is too long"),
             BadWhat::Lines => write!(f, "the scan has too many lines"),

@@ -31,7 +31,7 @@ frame_error (refusals.Size width height) = errors.Size width height
 frame_error (refusals.BadPose why) = errors.BadPose why
 frame_error (refusals.HeapSpent limit) = errors.HeapSpent limit
 
--- why an error came: the frame is refused, or memory ran out
+-- why an error came: the frame is refused, or it is out of memory
 abbrev pub frame_cause : FrameError → Cause Refusal
 frame_cause (errors.Size width height) = refused (refusals.Size width height)
 frame_cause (errors.BadPose why) = refused (refusals.BadPose why)

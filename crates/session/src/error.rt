@@ -24,7 +24,7 @@ pub enum FrameError {
 }
 
 impl FrameError {
-    /// Why the frame is refused. `None` where memory ran out.
+    /// Why the frame is refused. `None` where it is out of memory.
     pub fn refusal(&self) -> Option<Refusal>
         ensures refused { IfSome result (λ why. frame_cause self.now ≡ refused why) }
         ensures memory { IfNone result (frame_cause self.now ≡ out_of_memory) }

@@ -38,7 +38,7 @@ fn fuse(
     Some(session.frame(alloc, &PoseRows { r, t }, depths))
 }
 
-/// Fuses a frame, and lists the known voxels of the map then; nothing where the frame is refused or memory runs out.
+/// Fuses a frame, and lists the known voxels of the map then; nothing where the frame is refused or it is out of memory.
 fn fuse_and_list(
     alloc: Global,
     session: &mut Session,
