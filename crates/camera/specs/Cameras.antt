@@ -1,5 +1,5 @@
 -- A camera: its rays and its projection, the depths that it takes, the opening test and the active sphere.
-use Rattle.std.specs.Prelude.{ℕ, ◌==◌, ◌&&◌, Bool, ℤ, pos, ◌+ℤ◌, ◌-ℤ◌, ◌*ℤ◌, ◌≤ℤ◌, int_le, unsigned_abs, Option, None, Some, if◌then◌else◌}
+use Rattle.std.specs.Prelude.{ℕ, ◌==◌, ◌&&◌, Bool, List, [], ◌∷◌, ◌-◌, slice_index_or, ℤ, pos, ◌+ℤ◌, ◌-ℤ◌, ◌*ℤ◌, ◌≤ℤ◌, int_le, unsigned_abs, Option, None, Some, if◌then◌else◌}
 use Rattle.std.specs.Int.{int_max}
 use Rattle.fixed_geom.specs.Division.{floor_div}
 use Rattle.fixed_geom.specs.declared.vector.Vec3.{Vec3}
@@ -15,33 +15,62 @@ within low high z = int_le low z && int_le z high
 
 -- ---- the ranges of the fields
 
+-- the least value of each field, the field and its greatest value, in the order of their numbers 2 to 14. A range that names another field is taken by its value
+abbrev pub ranges_of : CameraFields → List (ℤ × ℤ × ℤ)
+ranges_of k =
+    (pos 1, k.width, pos 2048)
+    ∷ (pos 1, k.height, pos 2048)
+    ∷ (pos 1, k.fx, pos 1073741824)
+    ∷ (pos 1, k.fy, pos 1073741824)
+    ∷ (pos 0, k.cx, pos 65536 *ℤ k.width)
+    ∷ (pos 0, k.cy, pos 65536 *ℤ k.height)
+    ∷ (pos 1, k.unit, pos 100000)
+    ∷ (pos 1, k.near, pos 16000000)
+    ∷ (k.near, k.far, pos 16000000)
+    ∷ (pos 1000, k.voxel, pos 100000)
+    ∷ (k.voxel, k.mu, pos 1000000)
+    ∷ (pos 1, k.radius, pos 100000000)
+    ∷ (pos 0, k.centre, pos 17000000)
+    ∷ []
+
+-- the range of the field with number n
+abbrev pub range_at : ℕ → CameraFields → ℤ × ℤ × ℤ
+range_at n k = slice_index_or (ranges_of k) (n - 2) (pos 0, pos 0, pos 0)
+
+abbrev pub least : ℕ → CameraFields → ℤ
+least n k = (range_at n k).0
+
+abbrev pub greatest : ℕ → CameraFields → ℤ
+greatest n k = (range_at n k).2
+
 -- each field is in its range
 pub record HasRanges (k : CameraFields) : Type 0 where
-  pub width : pos 1 ≤ℤ k.width
-  pub width_high : k.width ≤ℤ pos 2048
-  pub height : pos 1 ≤ℤ k.height
-  pub height_high : k.height ≤ℤ pos 2048
-  pub fx : pos 1 ≤ℤ k.fx
-  pub fx_high : k.fx ≤ℤ pos 1073741824
-  pub fy : pos 1 ≤ℤ k.fy
-  pub fy_high : k.fy ≤ℤ pos 1073741824
-  pub cx : pos 0 ≤ℤ k.cx
-  pub cx_high : k.cx ≤ℤ (pos 65536 *ℤ k.width)
-  pub cy : pos 0 ≤ℤ k.cy
-  pub cy_high : k.cy ≤ℤ (pos 65536 *ℤ k.height)
-  pub unit : pos 1 ≤ℤ k.unit
-  pub unit_high : k.unit ≤ℤ pos 100000
-  pub near : pos 1 ≤ℤ k.near
-  pub far : k.near ≤ℤ k.far
-  pub far_high : k.far ≤ℤ pos 16000000
-  pub voxel : pos 1000 ≤ℤ k.voxel
-  pub voxel_high : k.voxel ≤ℤ pos 100000
-  pub mu : k.voxel ≤ℤ k.mu
-  pub mu_high : k.mu ≤ℤ pos 1000000
-  pub radius : pos 1 ≤ℤ k.radius
-  pub radius_high : k.radius ≤ℤ pos 100000000
-  pub centre : pos 0 ≤ℤ k.centre
-  pub centre_high : k.centre ≤ℤ pos 17000000
+  pub width : least 2 k ≤ℤ k.width
+  pub width_high : k.width ≤ℤ greatest 2 k
+  pub height : least 3 k ≤ℤ k.height
+  pub height_high : k.height ≤ℤ greatest 3 k
+  pub fx : least 4 k ≤ℤ k.fx
+  pub fx_high : k.fx ≤ℤ greatest 4 k
+  pub fy : least 5 k ≤ℤ k.fy
+  pub fy_high : k.fy ≤ℤ greatest 5 k
+  pub cx : least 6 k ≤ℤ k.cx
+  pub cx_high : k.cx ≤ℤ greatest 6 k
+  pub cy : least 7 k ≤ℤ k.cy
+  pub cy_high : k.cy ≤ℤ greatest 7 k
+  pub unit : least 8 k ≤ℤ k.unit
+  pub unit_high : k.unit ≤ℤ greatest 8 k
+  pub near : least 9 k ≤ℤ k.near
+  pub near_high : k.near ≤ℤ greatest 9 k
+  pub far : least 10 k ≤ℤ k.far
+  pub far_high : k.far ≤ℤ greatest 10 k
+  pub voxel : least 11 k ≤ℤ k.voxel
+  pub voxel_high : k.voxel ≤ℤ greatest 11 k
+  pub mu : least 12 k ≤ℤ k.mu
+  pub mu_high : k.mu ≤ℤ greatest 12 k
+  pub radius : least 13 k ≤ℤ k.radius
+  pub radius_high : k.radius ≤ℤ greatest 13 k
+  pub centre : least 14 k ≤ℤ k.centre
+  pub centre_high : k.centre ≤ℤ greatest 14 k
 
 -- ---- depths
 

@@ -1,5 +1,5 @@
 -- What the tests of a configuration show.
-use Rattle.std.proofs.Common.{◌≡◌, ℕ, suc, ◌+◌, ◌≤◌, List, [], ◌∷◌, length, Bool, true, false, Some, None, Ok, Err, refl, ap, cond, arith, rules}
+use Rattle.std.proofs.Common.{◌≡◌, ℕ, suc, ◌≤◌, List, [], ◌∷◌, length, Bool, true, false, Option, Some, None, Ok, Err, refl, ap, cond, arith, rules}
 use Rattle.std.specs.Prelude.{String, ℤ, pos, ◌≤ℤ◌, is_some, unsigned_abs}
 use Rattle.std.specs.declared.alloc.Global.{Global}
 use Rattle.std.specs.Str.{IsUtf8, is_utf8}
@@ -17,12 +17,12 @@ use Rattle.serde_json.specs.declared.value.Value.{Value}
 use Rattle.scan_io.specs.Reading.{turned}
 use Rattle.camera.specs.declared.camera.CameraFields.{CameraFields}
 use Rattle.camera.specs.Cameras.{within, IsCamera}
-use Rattle.camera.proofs.RangeLemmas.{between}
+use Rattle.camera.proofs.RangeLemmas.{all_hold, between}
 use Rattle.camera.specs.Opening.{camera_of}
 use Rattle.scan_lang.specs.declared.config.BadConfig.{BadConfig}
 use Rattle.scan_lang.specs.declared.config.BadConfig.TheVariants.{Json}
 use Rattle.scan_lang.specs.declared.config.ConfigFields.{ConfigFields}
-use Rattle.scan_lang.specs.Config.{object_of, object_in, passed, version_tests, limit_tests, bad_camera, made, checked, IsConfig}
+use Rattle.scan_lang.specs.Config.{object_of, object_in, refuse_field, passed, version_tests, limit_tests, bad_camera, made, checked, IsConfig}
 
 -- ---- the object
 
@@ -46,16 +46,10 @@ is_not_read line none = not_read_at line (is_utf8 line) refl none
 
 -- ---- the ranges
 
--- each test holds
-AllHold : List Bool → Type 0
-AllHold [] = Unit {0}
-AllHold (b ∷ tests) = (b ≡ true) × AllHold tests
-
-all_hold : (n : ℕ) (tests : List Bool) → passed n tests ≡ Ok tt → AllHold tests
-unfolding AllHold
-all_hold n [] h = tt
-all_hold n (true ∷ tests) h = (refl, all_hold (n + 1) tests h)
-all_hold n (false ∷ tests) h = absurd cc
+-- where no field is refused, none fails
+none_refused : (failing : Option ℕ) → refuse_field failing ≡ Ok tt → failing ≡ None
+none_refused None h = refl
+none_refused (Some n) h = absurd cc
 
 size_between : (low high : ℕ) (z : ℤ) → within (pos low) (pos high) z ≡ true → (low ≤ unsigned_abs z) × (unsigned_abs z ≤ high)
 size_between low high z h = let p = between (pos low) (pos high) z h in (omega (arith, ints), omega (arith, ints))
@@ -65,16 +59,16 @@ just_one n both = omega (arith, both.0, both.1)
 
 -- the configuration of fields that passed all tests
 pub made_is_config : (f : ConfigFields) → passed 1 (version_tests f) ≡ Ok tt → IsCamera f.camera → passed 15 (limit_tests f) ≡ Ok tt → IsConfig (made f)
-unfolding version_tests limit_tests AllHold
+unfolding version_tests limit_tests
 made_is_config f first camera limits =
-    let t = all_hold 15 (limit_tests f) limits in
+    let t = all_hold 15 (limit_tests f) (none_refused _ limits) in
     let max_weight = size_between 1 255 f.max_weight t.0 in
     let heap_blocks = size_between 1 65536 f.heap_blocks t.1.0 in
     let both = and_parts _ _ t.1.1.0 in
     let buckets = size_between 1 65536 f.buckets both.0 in
     let empty_f = between (pos 0) (pos 32767) f.empty_f t.1.1.1.0 in
     record {
-      version = just_one (unsigned_abs f.version) (size_between 1 1 f.version (all_hold 1 (version_tests f) first).0);
+      version = just_one (unsigned_abs f.version) (size_between 1 1 f.version (all_hold 1 (version_tests f) (none_refused _ first)).0);
       camera = camera;
       max_weight = max_weight.0;
       max_weight_high = max_weight.1;
