@@ -21,7 +21,7 @@ Arguments = Result (IntoIter (String Global) Global) Error
 -- whether the system was out of memory
 abbrev pub is_out_of_memory : ErrorKind → Bool
 is_out_of_memory OutOfMemory = true
-is_out_of_memory other = false
+is_out_of_memory _ = false
 
 -- the arguments after the program's name are no command; nor are any that can't be read
 abbrev pub is_usage : Arguments → Bool
