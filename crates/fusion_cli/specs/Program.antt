@@ -1,5 +1,5 @@
 -- What the program makes of its arguments, and what it writes to its error stream.
-use Rattle.std.specs.Prelude.{ℕ, List, [], ◌∷◌, ◌++◌, ◌⊎◌, Option, take, drop, map, not, Bool, true, false, Result, Ok, Err, String, string_bytes}
+use Rattle.std.specs.Prelude.{◌≡◌, ℕ, List, [], ◌∷◌, ◌++◌, ◌⊎◌, Option, take, drop, map, not, Bool, true, false, Result, Ok, Err, String, string_bytes}
 use Rattle.std.specs.Io.KnownBytes.{Appends}
 use Rattle.std.specs.Vec.Iter.{into_iter_items}
 use Rattle.std.specs.IoError.{error_kind}
@@ -9,6 +9,7 @@ use Rattle.std.specs.declared.io.ErrorKind.{ErrorKind}
 use Rattle.std.specs.declared.io.ErrorKind.TheVariants.{OutOfMemory}
 use Rattle.std.specs.declared.vec.IntoIter.{IntoIter}
 use Rattle.scan_io.specs.Causes.{Rose}
+use Rattle.scan_lang.specs.declared.error.BadScan.{BadScan as BadScanValue}
 use Rattle.fusion_cli.specs.Run.{is_fuse}
 use Rattle.fusion_cli.specs.Status.{text_of}
 use Rattle.fusion_cli.specs.declared.status.Status.{Status}
@@ -37,7 +38,8 @@ report_of (BadScan why) = text_of (BadScan why) ++ 10 ∷ []
 report_of ReadFault = text_of ReadFault ++ 10 ∷ []
 report_of WriteFault = text_of WriteFault ++ 10 ∷ []
 
--- an error stream took the line of a status, or nothing where it is out of memory, or a front of it where a write failed
+-- an error stream took the line of a status, or a front of it where a write failed; or nothing, for a refused scan whose
+-- line the program has no memory for
 pub record Reports (old new : Option (List ℕ)) (before now : ℕ) (status : Status) : Type 0 where
   pub front : (n : ℕ) × Appends old new (take n (report_of status))
-  pub whole : ¬ Rose before now → Appends old new (report_of status) ⊎ Appends old new []
+  pub whole : ¬ Rose before now → Appends old new (report_of status) ⊎ (((why : BadScanValue) × (status ≡ BadScan why)) × Appends old new [])

@@ -1,4 +1,5 @@
-ghost use Rattle.std.specs.Prelude.{◌≡◌, ◌⊎◌, true, false, drop, string_bytes, IfOk, IfErr, IsOkAnd, OnErr, if◌then◌else◌, MatchResult};
+ghost use Rattle.std.specs.Prelude.{◌≡◌, ◌⊎◌, ℕ, true, false, drop, take, string_bytes, IfOk, IfErr, IsOkAnd, OnErr, if◌then◌else◌, MatchResult};
+ghost use Rattle.std.specs.Io.KnownBytes.{Appends};
 ghost use Rattle.std.specs.IoError.{error_kind};
 ghost use Rattle.std.specs.Vec.Iter.{into_iter_items};
 ghost use Rattle.scan_io.specs.Causes.{Rose};
@@ -111,12 +112,33 @@ fn is_out_of_memory(kind: ErrorKind) -> bool
     matches!(kind, ErrorKind::OutOfMemory)
 }
 
-/// Writes the line of a status other than `Done`, with a line feed; nothing where it is out of memory.
+/// Writes the line of a status other than `Done`, with a line feed. Only the line of a refused scan takes memory; where
+/// there is none, nothing is written.
 fn report<E: Sink>(alloc: Global, status: &Status, errors: &mut E)
     ensures { Reports (E.written errors.old) (E.written errors.new) (E.faults errors.old) (E.faults errors.new) status.now }
 {
-    if let Ok(line) = report_line(alloc, status) {
-        let _ = put_all(errors, line.as_bytes());
+    match status {
+        Status::Done => {}
+        Status::NoMemory => report_text(b"fusion: no memory\n", errors),
+        Status::Usage => report_text(b"fusion: usage: fuse\n", errors),
+        Status::BadScan(_) => {
+            if let Ok(line) = report_line(alloc, status) {
+                report_text(line.as_bytes(), errors);
+            }
+        }
+        Status::ReadFault => report_text(b"fusion: read fault\n", errors),
+        Status::WriteFault => report_text(b"fusion: write fault\n", errors),
+    }
+}
+
+/// Writes a text. Where a write fails, only a front of it is written.
+fn report_text<E: Sink>(text: &[u8], errors: &mut E)
+    ensures front { (n : ℕ) × Appends (E.written errors.old) (E.written errors.new) (take n text.now) }
+    ensures whole { ¬ Rose (E.faults errors.old) (E.faults errors.new) → Appends (E.written errors.old) (E.written errors.new) text.now }
+{
+    match put_all(errors, text) {
+        Ok(()) => {}
+        Err(_) => {}
     }
 }
 

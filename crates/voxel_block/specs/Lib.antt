@@ -1,4 +1,6 @@
 pub mod Blocks
+pub mod Chunks
 pub mod Keys
+pub mod Packing
 pub mod Voxels
 pub mod Words

@@ -2,14 +2,18 @@
 #![tactic(auto)]
 
 mod block;
+mod chunk;
 mod key;
 pub mod laws;
 mod no_memory;
+mod packed;
 mod voxel;
 
 pub use block::Block;
+pub use chunk::ChunkKey;
 pub use key::BlockKey;
 pub use no_memory::NoMemory;
+pub use packed::Packed;
 pub use voxel::Voxel;
 
 #[cfg(test)]
