@@ -1,6 +1,6 @@
 -- A block's centre and its chunk's: how far apart their camera points are, and why a chunk with an active block passes the test.
-use Rattle.std.proofs.Common.{◌≡◌, suc, Bool, true, false, refl, sym, ap, subst, ◌∙◌, arith}
-use Rattle.std.specs.Prelude.{ℤ, pos, negsuc, neg_ℤ, ◌+ℤ◌, ◌-ℤ◌, ◌*ℤ◌, ◌≤ℤ◌, ◌<ℤ◌, unsigned_abs, IsTrue}
+use Rattle.std.proofs.Common.{◌≡◌, suc, Bool, true, false, refl, sym, ap, ◌∙◌, arith}
+use Rattle.std.specs.Prelude.{ℤ, pos, negsuc, neg_ℤ, ◌+ℤ◌, ◌-ℤ◌, ◌*ℤ◌, ◌≤ℤ◌, unsigned_abs, IsTrue}
 use Rattle.std.proofs.lemmas.Int.{ints, clamps}
 use Rattle.std.proofs.lemmas.Bool.{false≢true}
 use Rattle.fixed_geom.specs.Division.{IsFloor, floor_div}
@@ -14,7 +14,7 @@ use Rattle.voxel_block.specs.declared.key.BlockKey.{BlockKey}
 use Rattle.voxel_block.specs.declared.chunk.ChunkKey.{ChunkKey}
 use Rattle.voxel_block.specs.Chunks.{chunk_of}
 use Rattle.camera.specs.declared.camera.CameraFields.{CameraFields}
-use Rattle.camera.specs.Cameras.{HasRanges, square, chunk_margin, least_size, is_active, is_in_sphere, is_near_sphere, may_hold_active}
+use Rattle.camera.specs.Cameras.{HasRanges, square, chunk_margin, least_size, is_active, may_hold_active}
 use Rattle.camera.specs.Grid.{centre_of, chunk_centre}
 use Rattle.camera.proofs.RangeLemmas.{at_most, is_at_most}
 
