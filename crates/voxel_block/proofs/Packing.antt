@@ -1,5 +1,5 @@
 -- The packed form of a block, and what bytes state.
-use Rattle.std.proofs.Common.{Fits, w8, inl, inr, ◌≡◌, ◌≢◌, ℕ, zero, suc, ◌+◌, ◌*◌, ◌^◌, ◌<◌, ◌≤◌, ℤ, List, [], ◌∷◌, ◌++◌, length, get_or, set, drop, take, refl, ap, sym, subst, ◌∙◌, arith, rules, length-drop}
+use Rattle.std.proofs.Common.{Fits, w8, inl, inr, ◌≡◌, ℕ, zero, suc, ◌+◌, ◌*◌, ◌^◌, ◌<◌, ◌≤◌, ℤ, List, [], ◌∷◌, ◌++◌, length, get_or, set, drop, take, refl, ap, sym, subst, ◌∙◌, arith, length-drop}
 use Rattle.std.specs.Prelude.{Some, pos, All, slice_get, FitsSigned}
 use Rattle.std.specs.List.{flat_map}
 use Rattle.std.specs.Int.{w16, cast_signed, cast_unsigned, from_be_bytes, to_be_bytes}
@@ -14,7 +14,7 @@ use borrow.Rule.Slice.PartMut.{put_mid}
 use Rattle.voxel_block.specs.declared.key.BlockKey.{BlockKey}
 use Rattle.voxel_block.specs.declared.voxel.Voxel.{Voxel}
 use Rattle.voxel_block.specs.Voxels.{IsVoxel}
-use Rattle.voxel_block.specs.Packing.{bytes_16, key_bytes, voxel_bytes, packed, number_16, voxels_from, voxels_in, key_in, IsKey, IsBlock, IsAllowed, IsFirstBad}
+use Rattle.voxel_block.specs.Packing.{bytes_16, voxel_bytes, packed, number_16, voxels_from, voxels_in, key_in, IsKey, IsBlock, IsAllowed, IsFirstBad}
 
 -- ---- numbers
 

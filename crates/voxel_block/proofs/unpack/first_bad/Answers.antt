@@ -1,4 +1,4 @@
-use Rattle.std.proofs.Common.{◌<◌, ◌≤◌, length, arith, rules}
+use Rattle.std.proofs.Common.{arith}
 use Rattle.voxel_block.specs.Packing.{IsAllowed, voxels_in}
 use Rattle.voxel_block.proofs.Packing.{holds_more, holds_all, length-voxels_in}
 use Rattle.voxel_block.proofs.unpack.first_bad.Goals as goal

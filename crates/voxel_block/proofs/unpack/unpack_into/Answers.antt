@@ -1,7 +1,7 @@
 use Rattle.std.proofs.Common.{get_or, Fits, w8, ◌≡◌, ◌<◌, ℕ, List, Ok, length, ap, sym, subst, ◌∙◌, arith, rules}
 use Rattle.std.specs.Prelude.{All}
 use Rattle.voxel_block.specs.declared.voxel.Voxel.{Voxel}
-use Rattle.voxel_block.specs.Packing.{packed, key_in, voxels_in, IsAllowed, IsFirstBad}
+use Rattle.voxel_block.specs.Packing.{packed, key_in, voxels_in, IsFirstBad}
 use Rattle.voxel_block.proofs.Packing.{length-voxels_in, voxels_in-packed, key_in-packed, packed_in, bytes_small, all_allowed, none_bad}
 use Rattle.voxel_block.proofs.unpack.unpack_into.Goals as goal
 
