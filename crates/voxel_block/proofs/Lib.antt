@@ -1,4 +1,5 @@
 pub mod Blocks
 pub mod KeyLaws
+pub mod Packing
 pub mod VoxelLists
 pub mod WordLaws

@@ -1,7 +1,7 @@
 -- Chunks of 8 by 8 by 8 blocks.
-use Rattle.std.specs.Prelude.{ℕ, ◌+◌, ◌*◌, ℤ, pos, Bool, refl}
+use Rattle.std.specs.Prelude.{ℤ, pos, refl}
 use Rattle.std.specs.Coded.{Coded, code_by, coded×, coded_ℤ}
-use Rattle.std.specs.Int.{int_div_euclid, int_rem_euclid}
+use Rattle.std.specs.Int.{int_div_euclid}
 use Rattle.std.specs.declared.cmp.Ordering.{Ordering}
 use Rattle.std.specs.Ordering.{int_cmp, ordering_then}
 use Rattle.voxel_block.specs.declared.key.BlockKey.{BlockKey}

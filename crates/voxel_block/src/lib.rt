@@ -7,13 +7,15 @@ mod key;
 pub mod laws;
 mod no_memory;
 mod packed;
+mod unpack;
 mod voxel;
 
 pub use block::Block;
 pub use chunk::ChunkKey;
 pub use key::BlockKey;
 pub use no_memory::NoMemory;
-pub use packed::Packed;
+pub use packed::{Packed, pack_into};
+pub use unpack::{BadPacked, unpack_into};
 pub use voxel::Voxel;
 
 #[cfg(test)]

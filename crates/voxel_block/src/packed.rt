@@ -1,6 +1,9 @@
 ghost use Rattle.std.specs.Prelude.{◌≡◌, length, IfOk, replicate};
+ghost use Rattle.std.specs.List.{flat_map};
+ghost use Rattle.voxel_block.specs.Packing.{packed, key_bytes, voxel_bytes, IsBlock, IsKey};
 
-use crate::NoMemory;
+use crate::{Block, BlockKey, NoMemory, Voxel};
+use byteorder::{BigEndian, ByteOrder};
 use std::alloc::Global;
 use std::marker::Model;
 
@@ -48,5 +51,47 @@ impl Packed {
         ensures { self.new ≡ bytes.now }
     {
         self.bytes.copy_from_slice(bytes);
+    }
+}
+
+/// Writes a block and its key in packed form. Takes no memory.
+pub fn pack_into(block: &Block, key: BlockKey, out: &mut Packed)
+    ensures value { out.new ≡ packed key block.now }
+    ensures block { IsBlock block.now }
+    ensures key { IsKey key }
+{
+    let (head, rest) = out.bytes.split_at_mut(6);
+    write_key(key, head);
+    write_voxels(block, rest);
+}
+
+// Writes a key in 6 bytes.
+fn write_key(key: BlockKey, out: &mut [u8])
+    requires { length out.old ≡ 6 }
+    ensures { out.new ≡ key_bytes key }
+{
+    BigEndian::write_i16(&mut out[0..2], key.x);
+    BigEndian::write_i16(&mut out[2..4], key.y);
+    BigEndian::write_i16(&mut out[4..6], key.z);
+}
+
+// Writes a voxel in 3 bytes.
+fn write_voxel(voxel: Voxel, out: &mut [u8])
+    requires { length out.old ≡ 3 }
+    ensures { out.new ≡ voxel_bytes voxel }
+{
+    BigEndian::write_i16(out, voxel.f);
+    out[2] = voxel.w;
+}
+
+// Writes the voxels of a block in 1536 bytes.
+fn write_voxels(block: &Block, out: &mut [u8])
+    requires { length out.old ≡ 1536 }
+    ensures value { out.new ≡ flat_map voxel_bytes block.now }
+    ensures block { IsBlock block.now }
+{
+    for i in 0..block.len() as u16 {
+        let at = 3 * i as usize;
+        write_voxel(block.get(i), &mut out[at..at + 3]);
     }
 }

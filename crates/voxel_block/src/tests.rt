@@ -1,4 +1,4 @@
-ghost use Rattle.std.specs.Prelude.{◌≡◌, ◌+◌, ◌%◌};
+ghost use Rattle.std.specs.Prelude.{◌≡◌, ◌≢◌, ◌<◌, ◌+◌, ◌%◌, negsuc};
 ghost use Rattle.std.specs.FinMap.{entries, from_entries};
 ghost use Rattle.voxel_block.specs.Blocks.{by_index};
 ghost use Rattle.voxel_block.specs.Keys.{key_cmp};
@@ -25,6 +25,24 @@ fn count(map: &BTreeMap<BlockKey, Block>) -> usize
     ensures { entries (from_entries {R = key_cmp} map.now.entries) ≡ map.now.entries }
 {
     map.len()
+}
+
+// Gives each voxel of a layer this distance, and weight 1.
+fn set_layer(block: &mut Block, z: u16, f: i16)
+    requires layer { z < 8 }
+    requires distance { f ≢ negsuc 32767 }
+{
+    for i in 64 * z..64 * z + 64 {
+        block.set(i, Voxel { f, w: 1 });
+    }
+}
+
+// Puts three bytes where the voxel of this index stands.
+fn put(bytes: &mut [u8; 1542], i: u16, voxel: [u8; 3]) {
+    let at = 6 + 3 * (i % 512) as usize;
+    bytes[at] = voxel[0];
+    bytes[at + 1] = voxel[1];
+    bytes[at + 2] = voxel[2];
 }
 
 fn is_shared<T: Send + Sync>(_value: &T) {}
@@ -88,11 +106,126 @@ fn a_key_has_one_word(rt: HostRuntime) {
 }
 
 #[test]
-fn the_error_reads_as_words(rt: HostRuntime) -> Result<(), Fail> {
+fn a_block_is_packed_and_unpacked(rt: HostRuntime) -> Result<(), Fail> {
+    let mut block = Block::make(rt.alloc())?;
+    set_layer(&mut block, 0, 32767);
+    set_layer(&mut block, 1, 24575);
+    set_layer(&mut block, 2, 16383);
+    set_layer(&mut block, 3, 8191);
+    set_layer(&mut block, 4, 0);
+    set_layer(&mut block, 5, -8192);
+    set_layer(&mut block, 6, -16384);
+    set_layer(&mut block, 7, -24576);
+    let key = BlockKey { x: 0, y: 0, z: 12 };
+    let mut packed = Packed::make(rt.alloc())?;
+    is_shared(&packed);
+    pack_into(&block, key, &mut packed);
+    let bytes = packed.bytes();
+    assert_eq!(rt; bytes.len(), 1542);
+    assert_eq!(rt;
+        &bytes[..9],
+        [0, 0, 0, 0, 0, 0x0C, 0x7F, 0xFF, 1].as_slice()
+    );
+    assert_eq!(rt; &bytes[1539..], [0xA0, 0, 1].as_slice());
+    let mut again = Block::make(rt.alloc())?;
+    assert_eq!(rt; unpack_into(&packed, 1, &mut again), Ok(key));
+    for i in 0..512 {
+        assert_eq!(rt; again.get(i), block.get(i), "voxel {i}");
+    }
+    Ok(())
+}
+
+#[test]
+fn a_key_is_packed_with_its_sign(rt: HostRuntime) -> Result<(), Fail> {
+    let block = Block::make(rt.alloc())?;
+    let mut packed = Packed::make(rt.alloc())?;
+    let mut out = Block::make(rt.alloc())?;
+    for (x, y, z, is) in [
+        (-1, -32768, 32767, [0xFF, 0xFF, 0x80, 0, 0x7F, 0xFF]),
+        (32767, -1, -32768, [0x7F, 0xFF, 0xFF, 0xFF, 0x80, 0]),
+        (258, 0, -2, [1, 2, 0, 0, 0xFF, 0xFE]),
+    ] {
+        let key = BlockKey { x, y, z };
+        pack_into(&block, key, &mut packed);
+        assert_eq!(rt; &packed.bytes()[..6], is.as_slice());
+        assert_eq!(rt; unpack_into(&packed, 0, &mut out), Ok(key));
+    }
+    Ok(())
+}
+
+#[test]
+fn voxels_that_are_not_allowed_are_refused(rt: HostRuntime) -> Result<(), Fail> {
+    let key = BlockKey { x: 1, y: 2, z: 3 };
+    let kept = Voxel { f: -7, w: 9 };
+    let mut new = Packed::make(rt.alloc())?;
+    pack_into(&Block::make(rt.alloc())?, key, &mut new);
+    let mut packed = Packed::make(rt.alloc())?;
+    for (name, i, voxel, max_weight, is) in [
+        (
+            "distance 0 without weight",
+            0,
+            [0, 0, 0],
+            100,
+            Err(BadPacked { voxel: 0 }),
+        ),
+        (
+            "the last one",
+            511,
+            [0x7F, 0xFE, 0],
+            100,
+            Err(BadPacked { voxel: 511 }),
+        ),
+        (
+            "distance -32768",
+            17,
+            [0x80, 0, 5],
+            100,
+            Err(BadPacked { voxel: 17 }),
+        ),
+        ("distance -32767", 17, [0x80, 1, 5], 100, Ok(key)),
+        (
+            "a weight above",
+            17,
+            [0, 0, 101],
+            100,
+            Err(BadPacked { voxel: 17 }),
+        ),
+        ("the greatest weight", 17, [0, 0, 100], 100, Ok(key)),
+        (
+            "another one as well",
+            300,
+            [0, 0, 0],
+            3,
+            Err(BadPacked { voxel: 200 }),
+        ),
+    ] {
+        let mut bytes = [0; 1542];
+        bytes.copy_from_slice(new.bytes());
+        put(&mut bytes, 200, [0, 0, 4]);
+        put(&mut bytes, i, voxel);
+        packed.of_bytes(&bytes);
+        let mut out = Block::make(rt.alloc())?;
+        out.set(5, kept);
+        assert_eq!(rt; unpack_into(&packed, max_weight, &mut out), is, "{name}");
+        let left = if is.is_ok() { NEW } else { kept };
+        assert_eq!(rt; out.get(5), left, "{name}");
+        assert_eq!(rt; out.get(0), NEW, "{name}");
+    }
+    Ok(())
+}
+
+#[test]
+fn the_errors_read_as_words(rt: HostRuntime) -> Result<(), Fail> {
     is_shared(&NoMemory);
     assert_eq!(rt;
         format!(in rt.alloc(); "{NoMemory}")?.as_str(),
         "out of memory"
+    );
+    let bad = BadPacked { voxel: 17 };
+    is_shared(&bad);
+    assert_eq!(rt;
+        format!(in rt.alloc(); "{bad}")?.as_str(),
+        "voxel 17 of a packed block is not allowed"
     );
     Ok(())
 }
