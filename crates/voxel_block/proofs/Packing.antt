@@ -215,9 +215,9 @@ filled_all vs out i count end h =
     let long = h.count in
     sym (take_all i out (omega arith)) ∙ h.front ∙ take_all i vs (omega arith)
 
--- ---- which forms are taken
+-- ---- voxels that are allowed
 
--- a block whose weights are not above the greatest is taken
+-- each voxel of a block is allowed where no weight is above the greatest
 pub all_allowed : (max_weight : ℕ) (vs : List Voxel) → All IsVoxel vs → All (λ v. v.w ≤ max_weight) vs → All (IsAllowed max_weight) vs
 all_allowed max_weight vs voxels weights = λ k d below. record { voxel = voxels k d below; weight = weights k d below }
 

@@ -63,12 +63,12 @@ pub record IsBlock (vs : List Voxel) : Type 0 where
   pub distances : All (λ v. FitsSigned w16 v.f) vs
   pub weights : All (λ v. v.w < 256) vs
 
--- a voxel that is taken: it is one that a block may have, and its weight is not above the greatest
+-- a voxel that is allowed: it is one that a block may have, and its weight is not above the greatest
 pub record IsAllowed (max_weight : ℕ) (v : Voxel) : Type 0 where
   pub voxel : IsVoxel v
   pub weight : v.w ≤ max_weight
 
--- the least index of a voxel that is not taken
+-- the least index of a voxel that is not allowed
 pub record IsFirstBad (max_weight : ℕ) (vs : List Voxel) (i : ℕ) : Type 0 where
   pub within : i < length vs
   pub bad : (v : Voxel) → slice_get vs i ≡ Some v → ¬ (IsAllowed max_weight v)
