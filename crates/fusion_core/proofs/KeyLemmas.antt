@@ -1,7 +1,7 @@
--- The keys of a map: each once, and its entries by them.
+-- The entries of a map by its keys.
 use Rattle.std.proofs.Common.{◌≡◌, T, Bool, true, false, cond, ◌&&◌, ◌||◌, List, [], ◌∷◌, map, refl, sym, ap, subst, ◌∙◌}
 use Rattle.std.specs.Prelude.{Option, Some, None, is_some}
-use Rattle.std.specs.List.{AllByRecursion, IsDistinct, list_any}
+use Rattle.std.specs.List.{list_any}
 use Rattle.std.specs.Ordering.{is_eq, is_lt}
 use Rattle.std.specs.declared.cmp.Ordering.{Ordering}
 use Rattle.std.specs.declared.cmp.Ordering.TheVariants.{Less, Equal, Greater}
@@ -12,43 +12,6 @@ use Rattle.voxel_block.specs.Keys.{key_cmp, same_key}
 use Rattle.voxel_block.proofs.KeyLaws.{exact_keys, keys_total}
 use Rattle.fusion_core.proofs.MapLemmas.{pairs_of, get-pairs_of}
 use Rattle.fusion_core.proofs.FuseLemmas.{sorted_pairs, entries_of_sorted}
-
--- ---- each once
-
-left_of : (a b : Bool) → T (a && b) → T a
-left_of true b t = tt
-left_of false b t = absurd t
-
-right_of : (a b : Bool) → T (a && b) → T b
-right_of true b t = t
-right_of false b t = absurd t
-
-less_apart : (o : Ordering) → T (is_lt o) → is_eq o ≡ false
-less_apart Less t = refl
-less_apart Equal t = absurd t
-less_apart Greater t = refl
-
-module _ {X : Type 0} where
-  above_apart : (x : BlockKey) (es : List (BlockKey × X)) → T (below_all key_cmp x es) → AllByRecursion (λ y. same_key x y ≡ false) (map (λ e. e.0) es)
-  above_apart x [] t = tt
-  above_apart x (e ∷ es) t = (less_apart (key_cmp x e.0) (left_of (is_lt (key_cmp x e.0)) (below_all key_cmp x es) t), above_apart x es (right_of (is_lt (key_cmp x e.0)) (below_all key_cmp x es) t))
-
-  sorted_distinct : (es : List (BlockKey × X)) → T (is_sorted key_cmp es) → IsDistinct same_key (map (λ e. e.0) es)
-  unfolding IsDistinct
-  sorted_distinct [] t = tt
-  sorted_distinct (e ∷ es) t = (above_apart e.0 es (left_of (below_all key_cmp e.0 es) (is_sorted key_cmp es) t), sorted_distinct es (right_of (below_all key_cmp e.0 es) (is_sorted key_cmp es) t))
-
-  pub distinct_keys : (m : FinMap key_cmp X) → IsDistinct same_key (keys m)
-  distinct_keys m = sorted_distinct (entries m) (entries_sorted m)
-
-none_equal : (x : BlockKey) (ks : List BlockKey) → AllByRecursion (λ y. same_key x y ≡ false) ks → list_any (same_key x) ks ≡ false
-none_equal x [] a = refl
-none_equal x (k ∷ ks) a = (λ i. a.0 i || list_any (same_key x) ks) ∙ none_equal x ks a.1
-
--- the first key is not among the others
-pub not_again : (x : BlockKey) (ks : List BlockKey) → IsDistinct same_key (x ∷ ks) → list_any (same_key x) ks ≡ false
-unfolding IsDistinct
-not_again x ks d = none_equal x ks d.0
 
 -- ---- entries by keys
 

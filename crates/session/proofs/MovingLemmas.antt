@@ -16,7 +16,7 @@ use Rattle.fusion_core.specs.Frames.{Frame}
 use Rattle.fusion_core.specs.Frames.{is_active}
 use Rattle.fusion_core.specs.Maps.{active_count}
 use Rattle.session.specs.Rooms.{Moves, leaves}
-use Rattle.fusion_core.proofs.KeyLemmas.{distinct_keys}
+use Rattle.voxel_block.proofs.DistinctKeys.{distinct_keys}
 use Rattle.session.proofs.CountLemmas.{count_by-cons, count_keys}
 
 -- ---- one key

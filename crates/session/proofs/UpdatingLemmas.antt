@@ -16,7 +16,7 @@ use Rattle.fuse_kernel.proofs.LawLemmas.{inactive_stays}
 use Rattle.fusion_core.specs.Frames.{Frame, IsFrame, is_active, view}
 use Rattle.fusion_core.specs.Maps.{BlockMap, HasWholeBlocks, voxels_at, all_updated}
 use Rattle.session.specs.Rooms.{StaysInPlace}
-use Rattle.fusion_core.proofs.KeyLemmas.{distinct_keys, not_again}
+use Rattle.voxel_block.proofs.DistinctKeys.{distinct_keys, not_again}
 use Rattle.fusion_core.proofs.UpdatedLemmas.{get_updated}
 use Rattle.session.proofs.MovingLemmas.{is_first, is_later}
 

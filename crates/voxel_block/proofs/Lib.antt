@@ -1,4 +1,5 @@
 pub mod Blocks
+pub mod DistinctKeys
 pub mod KeyLaws
 pub mod Packing
 pub mod VoxelLists

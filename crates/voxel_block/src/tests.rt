@@ -215,6 +215,22 @@ fn voxels_that_are_not_allowed_are_refused(rt: HostRuntime) -> Result<(), Fail> 
 }
 
 #[test]
+fn a_block_lies_in_the_chunk_of_its_coordinates_by_eight(rt: HostRuntime) -> Result<(), Fail> {
+    for (block, chunk) in [
+        ((0, 0, 12), (0, 0, 1)),
+        ((7, 8, -1), (0, 1, -1)),
+        ((-8, -9, 625), (-1, -2, 78)),
+        ((-32768, 32767, 0), (-4096, 4095, 0)),
+    ] {
+        let (x, y, z) = block;
+        let is = BlockKey { x, y, z }.chunk();
+        is_shared(&is);
+        assert_eq!(rt; (is.x, is.y, is.z), chunk);
+    }
+    Ok(())
+}
+
+#[test]
 fn the_errors_read_as_words(rt: HostRuntime) -> Result<(), Fail> {
     is_shared(&NoMemory);
     assert_eq!(rt;
