@@ -56,3 +56,28 @@ handed r b place size w fits sized e =
 
 pub handed_within : (r : ℤ) → IsWithin (pos 1099511627776) r → IsWithin (pos 1099511627776) (read r)
 handed_within r w = record { low = omega (arith, ints); high = omega (arith, ints) }
+
+-- ---- the centre of a chunk
+
+chunk_far : (b size : ℤ) → IsWithin (pos 32768) b → IsWithin (pos 100000) size → IsWithin (pos 209718400000) ((pos 64 *ℤ b +ℤ pos 32) *ℤ size)
+chunk_far b size w s = within_product (pos 2097184) (pos 100000) (pos 64 *ℤ b +ℤ pos 32) size (chunk_across b w) s
+  where
+    chunk_across : (b : ℤ) → IsWithin (pos 32768) b → IsWithin (pos 2097184) (pos 64 *ℤ b +ℤ pos 32)
+    chunk_across b w = record { low = omega (arith, ints); high = omega (arith, ints) }
+
+pub chunk_coordinate_is : (f b size : ℤ) → SFits w16 b → IsWithin (pos 100000) size → f ≡ to_z w16 (of_z w16 b) → read (read (read (pos 64 *ℤ read f) +ℤ pos 32) *ℤ read size) ≡ (pos 64 *ℤ b +ℤ pos 32) *ℤ size
+chunk_coordinate_is f b size fits s e =
+    let w = within16 b fits in
+    rw (chunk_sum f b w (e ∙ to_z-of_z w16 b fits), size_read size s) (plain ((pos 64 *ℤ b +ℤ pos 32) *ℤ size) (chunk_far b size w s))
+  where
+    chunk_sum : (f b : ℤ) → IsWithin (pos 32768) b → f ≡ b → read (read (pos 64 *ℤ read f) +ℤ pos 32) ≡ pos 64 *ℤ b +ℤ pos 32
+    chunk_sum f b w e = omega (arith, ints)
+
+    plain : (z : ℤ) → IsWithin (pos 209718400000) z → read z ≡ z
+    plain z w = omega (arith, ints)
+
+pub chunk_coordinate_within : (r b size : ℤ) → SFits w16 b → IsWithin (pos 100000) size → r ≡ (pos 64 *ℤ b +ℤ pos 32) *ℤ size → IsWithin (pos 1099511627776) r
+chunk_coordinate_within r b size fits s e = plain r ((pos 64 *ℤ b +ℤ pos 32) *ℤ size) e (chunk_far b size (within16 b fits) s)
+  where
+    plain : (r z : ℤ) → r ≡ z → IsWithin (pos 209718400000) z → IsWithin (pos 1099511627776) r
+    plain r z e w = record { low = omega (arith, ints); high = omega (arith, ints) }

@@ -1,6 +1,7 @@
 pub mod Active
 pub mod Band
 pub mod CameraLemmas
+pub mod ChunkLemmas
 pub mod GridLemmas
 pub mod Inside
 pub mod KeyLemmas

@@ -6,7 +6,8 @@ use Rattle.fixed_geom.specs.declared.vector.Vec3.{Vec3}
 use Rattle.fixed_geom.specs.Vectors.{vec}
 use Rattle.fixed_geom.specs.Poses.{Pose, cam}
 use Rattle.voxel_block.specs.declared.key.BlockKey.{BlockKey}
-use Rattle.camera.specs.Grid.{centre_of}
+use Rattle.voxel_block.specs.declared.chunk.ChunkKey.{ChunkKey}
+use Rattle.camera.specs.Grid.{centre_of, chunk_centre}
 use Rattle.camera.specs.declared.camera.CameraFields.{CameraFields}
 
 -- z is in the range from low to high
@@ -182,3 +183,19 @@ is_in_sphere k c = int_le (square c.x +ℤ square c.y +ℤ square (c.z -ℤ k.ce
 -- whether a block is active at a pose: its centre lies in the active sphere
 abbrev pub is_active : CameraFields → Pose → BlockKey → Bool
 is_active k m b = is_in_sphere k (cam m (centre_of k.voxel b))
+
+-- how far the camera point of a block's centre may lie from that of its chunk's centre, on each axis: 49 voxels
+abbrev pub chunk_margin : CameraFields → ℤ
+chunk_margin k = pos 49 *ℤ k.voxel
+
+-- the least size of a number that is within n of z
+abbrev pub least_size : (n z : ℤ) → ℤ
+least_size n z = int_max (pos 0) (pos (unsigned_abs z) -ℤ n)
+
+-- whether a point of the active sphere may lie within the chunk margin of the camera point c on each axis
+abbrev pub is_near_sphere : CameraFields → Vec3 → Bool
+is_near_sphere k c = int_le (square (least_size (chunk_margin k) c.x) +ℤ square (least_size (chunk_margin k) c.y) +ℤ square (least_size (chunk_margin k) (c.z -ℤ k.centre))) (square k.radius)
+
+-- whether a chunk may hold an active block at a pose: the sphere comes within the margin of the chunk's centre
+abbrev pub may_hold_active : CameraFields → Pose → ChunkKey → Bool
+may_hold_active k m c = is_near_sphere k (cam m (chunk_centre k.voxel c))

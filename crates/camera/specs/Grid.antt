@@ -4,6 +4,7 @@ use Rattle.fixed_geom.specs.Division.{floor_div}
 use Rattle.fixed_geom.specs.declared.vector.Vec3.{Vec3}
 use Rattle.fixed_geom.specs.Vectors.{vec}
 use Rattle.voxel_block.specs.declared.key.BlockKey.{BlockKey}
+use Rattle.voxel_block.specs.declared.chunk.ChunkKey.{ChunkKey}
 use Rattle.voxel_block.specs.Blocks.{offset_of, index_of}
 
 -- the voxel coordinates, in the whole grid, of voxel i of block b: x runs fastest, then y, then z
@@ -17,6 +18,10 @@ point_of s b i = vec ((voxel_coordinates b i).x *ℤ s) ((voxel_coordinates b i)
 -- the centre of block b
 abbrev pub centre_of : (s : ℤ) → BlockKey → Vec3
 centre_of s b = vec ((pos 8 *ℤ b.x +ℤ pos 4) *ℤ s) ((pos 8 *ℤ b.y +ℤ pos 4) *ℤ s) ((pos 8 *ℤ b.z +ℤ pos 4) *ℤ s)
+
+-- the centre of chunk c, which has 64 voxels on each axis
+abbrev pub chunk_centre : (s : ℤ) → ChunkKey → Vec3
+chunk_centre s c = vec ((pos 64 *ℤ c.x +ℤ pos 32) *ℤ s) ((pos 64 *ℤ c.y +ℤ pos 32) *ℤ s) ((pos 64 *ℤ c.z +ℤ pos 32) *ℤ s)
 
 -- the block of three coordinates
 abbrev pub block : ℤ → ℤ → ℤ → BlockKey

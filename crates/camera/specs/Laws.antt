@@ -2,14 +2,19 @@
 use Rattle.std.specs.Prelude.{ℕ, ◌≡◌, ◌<◌, false, IsTrue, ℤ, pos, ◌≤ℤ◌, ◌<ℤ◌}
 use Rattle.fixed_geom.specs.Poses.{Pose, IsPose, world}
 use Rattle.voxel_block.specs.declared.key.BlockKey.{BlockKey}
+use Rattle.voxel_block.specs.Chunks.{chunk_of}
 use Rattle.camera.specs.declared.camera.CameraFields.{CameraFields}
-use Rattle.camera.specs.Cameras.{IsCamera, max_depth, is_active, ray}
+use Rattle.camera.specs.Cameras.{IsCamera, max_depth, is_active, may_hold_active, ray}
 use Rattle.camera.specs.Grid.{block_of_voxel, is_key, nearest_voxel}
 use Rattle.camera.specs.Visibility.{IsInReach, IsMet, IsNearBlock, IsPiercedAt, MeetsNone, is_visible}
 
 -- no voxel of a block that is not visible is met
 abbrev pub InvisibleMeetsNone : Type 0
 InvisibleMeetsNone = (k : CameraFields) (m : Pose) (b : BlockKey) → IsCamera k → IsPose m → is_visible k m b ≡ false → MeetsNone k m b
+
+-- the chunk of an active block passes the test of chunks
+abbrev pub ActiveIsHeld : Type 0
+ActiveIsHeld = (k : CameraFields) (m : Pose) (b : BlockKey) → IsCamera k → IsPose m → IsTrue (is_active k m b) → IsTrue (may_hold_active k m (chunk_of b))
 
 -- a block with a voxel that is met is active
 abbrev pub MetIsActive : Type 0

@@ -1,7 +1,9 @@
 ghost use Rattle.std.specs.Prelude.{◌≡◌, ◌^◌, ◌<◌, ◌+◌, ◌↔◌, false, pos, ◌≤ℤ◌, ◌<ℤ◌, Ok, Err, Some, IfOk, IfSome, ℕ};
 ghost use Rattle.fixed_geom.specs.Vectors.{AreWithin};
-ghost use Rattle.camera.specs.Cameras.{IsCamera, HasRanges, HasReach, FitsSphere, max_depth, depth_of, ray as ray_of, project as pixel_of, is_active};
-ghost use Rattle.camera.specs.Grid.{key_at, nearest as nearest_of, nearest_voxel, voxel_coordinates, point_of, centre_of};
+ghost use Rattle.camera.specs.Cameras.{IsCamera, HasRanges, HasReach, FitsSphere, max_depth, depth_of, ray as ray_of, project as pixel_of, is_active, may_hold_active};
+ghost use Rattle.voxel_block.specs.declared.key.BlockKey.{BlockKey as BlockKeyOf};
+ghost use Rattle.voxel_block.specs.Chunks.{chunk_of};
+ghost use Rattle.camera.specs.Grid.{key_at, nearest as nearest_of, nearest_voxel, voxel_coordinates, point_of, centre_of, chunk_centre as chunk_centre_of};
 ghost use Rattle.camera.specs.Opening.{camera_of, camera_tests, first_failing};
 ghost use Rattle.camera.specs.Visibility.{MeetsNone, is_visible};
 
@@ -12,7 +14,7 @@ use fixed_geom::{Pose, Vec3};
 use std::error::Error;
 use std::fmt;
 use std::marker::Model;
-use voxel_block::BlockKey;
+use voxel_block::{BlockKey, ChunkKey};
 
 /// The fields of a camera and of the space in front of it.
 ///
@@ -186,6 +188,16 @@ impl Camera {
         sphere::is_in_sphere(&self.fields, pose.cam(centre))
     }
 
+    /// Whether a chunk may hold an active block at a pose, by its centre alone. Where it may not, none of its 512 blocks
+    /// is active.
+    pub fn may_hold_active(&self, pose: &Pose, chunk: ChunkKey) -> bool
+        ensures value { result ≡ may_hold_active self.now pose.now chunk }
+        ensures none { result ≡ false → (b : BlockKeyOf) → chunk_of b ≡ chunk → is_active self.now pose.now b ≡ false }
+    {
+        let centre = self.chunk_centre(chunk);
+        sphere::is_near_sphere(&self.fields, pose.cam(centre))
+    }
+
     /// Whether a block is visible at a pose. Where it is not, none of its voxels projects inside the image at a
     /// depth that a frame may touch.
     pub fn may_see(&self, pose: &Pose, key: BlockKey) -> bool
@@ -229,5 +241,13 @@ impl Camera {
         ensures bound { AreWithin (pos (2 ^ 40)) result }
     {
         grid::block_centre(self.fields.voxel, key)
+    }
+
+    /// The world point of the centre of a chunk.
+    pub fn chunk_centre(&self, chunk: ChunkKey) -> Vec3
+        ensures value { result ≡ chunk_centre_of self.now.voxel chunk }
+        ensures bound { AreWithin (pos (2 ^ 40)) result }
+    {
+        grid::chunk_centre(self.fields.voxel, chunk)
     }
 }

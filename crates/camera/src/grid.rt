@@ -1,9 +1,9 @@
 ghost use Rattle.std.specs.Prelude.{◌≡◌, ◌^◌, ◌<◌, pos, ◌+ℤ◌, ◌*ℤ◌, ◌≤ℤ◌, Some, None, IfSome, if◌then◌else◌};
 ghost use Rattle.fixed_geom.specs.Vectors.{AreWithin, IsWithin};
-ghost use Rattle.camera.specs.Grid.{centre_of, point_of, block, fits_key, as_key, key_at, nearest as nearest_of, nearest_voxel as nearest_voxel_of, nearest_axis as nearest_axis_of, block_of_voxel as block_of_voxel_of, index_of_voxel as index_of_voxel_of, offset_axis as offset_axis_of, voxel_coordinates};
+ghost use Rattle.camera.specs.Grid.{centre_of, chunk_centre as chunk_centre_of, point_of, block, fits_key, as_key, key_at, nearest as nearest_of, nearest_voxel as nearest_voxel_of, nearest_axis as nearest_axis_of, block_of_voxel as block_of_voxel_of, index_of_voxel as index_of_voxel_of, offset_axis as offset_axis_of, voxel_coordinates};
 
 use fixed_geom::Vec3;
-use voxel_block::BlockKey;
+use voxel_block::{BlockKey, ChunkKey};
 
 /// The world point of voxel `i` of a block, in micrometres, where a voxel has the size `size`.
 pub fn voxel_point(size: i64, key: BlockKey, i: u16) -> Vec3
@@ -29,6 +29,19 @@ pub fn block_centre(size: i64, key: BlockKey) -> Vec3
         x: coordinate(size, key.x, 4),
         y: coordinate(size, key.y, 4),
         z: coordinate(size, key.z, 4),
+    }
+}
+
+/// The centre of a chunk, in micrometres.
+pub fn chunk_centre(size: i64, chunk: ChunkKey) -> Vec3
+    requires { IsWithin (pos 100000) size }
+    ensures value { result ≡ chunk_centre_of size chunk }
+    ensures bound { AreWithin (pos (2 ^ 40)) result }
+{
+    Vec3 {
+        x: chunk_coordinate(size, chunk.x),
+        y: chunk_coordinate(size, chunk.y),
+        z: chunk_coordinate(size, chunk.z),
     }
 }
 
@@ -138,4 +151,13 @@ fn coordinate(size: i64, block: i16, offset: u16) -> i64
     ensures bound { IsWithin (pos (2 ^ 40)) result }
 {
     (8 * i64::from(block) + i64::from(offset)) * size
+}
+
+/// A coordinate of a chunk's centre.
+fn chunk_coordinate(size: i64, chunk: i16) -> i64
+    requires { IsWithin (pos 100000) size }
+    ensures value { result ≡ (pos 64 *ℤ chunk +ℤ pos 32) *ℤ size }
+    ensures bound { IsWithin (pos (2 ^ 40)) result }
+{
+    (64 * i64::from(chunk) + 32) * size
 }

@@ -1,4 +1,4 @@
-ghost use Rattle.camera.specs.Laws.{MetIsActive, NearestIsActive, PiercedIsActive, InvisibleMeetsNone};
+ghost use Rattle.camera.specs.Laws.{ActiveIsHeld, MetIsActive, NearestIsActive, PiercedIsActive, InvisibleMeetsNone};
 
 /// No voxel of a block that is not visible projects inside the image at a depth that a frame may
 /// touch. The body is empty: the clause is the theorem.
@@ -10,6 +10,11 @@ pub fn invisible_meets_none()
 /// touch.
 pub fn met_is_active()
     ensures { MetIsActive }
+{}
+
+/// The chunk of an active block passes the test of `may_hold_active`.
+pub fn active_is_held()
+    ensures { ActiveIsHeld }
 {}
 
 /// A block is active, its coordinates are from -18876 to 18875, and 8 voxel sizes times each of them

@@ -4,7 +4,7 @@ ghost use Rattle.fixed_geom.specs.Vectors.{AreWithin, IsWithin};
 use super::*;
 use fixed_geom::{Pose, PoseRows, Vec3};
 use std::test::Fail;
-use voxel_block::BlockKey;
+use voxel_block::{BlockKey, ChunkKey};
 
 const BASE: CameraFields = CameraFields {
     width: 1,
@@ -36,6 +36,16 @@ fn is_shared<T: Send + Sync>(_value: &T) {}
 
 fn key(x: i16, y: i16, z: i16) -> BlockKey {
     BlockKey { x, y, z }
+}
+
+// The pose whose camera points are the world points.
+fn at_origin() -> Result<Pose, Fail> {
+    let one = 1 << 30;
+    let rows = PoseRows {
+        r: [one, 0, 0, 0, one, 0, 0, 0, one],
+        t: point(0, 0, 0),
+    };
+    Pose::accept(&rows).map_err(|_| Fail::from("pose"))
 }
 
 #[test]
@@ -206,17 +216,34 @@ fn points_have_blocks_and_voxels(rt: HostRuntime) -> Result<(), BadCamera> {
 #[test]
 fn blocks_are_active_and_visible(rt: HostRuntime) -> Result<(), Fail> {
     let camera = Camera::make(BASE).map_err(|_| Fail::from("camera"))?;
-    let one = 1 << 30;
-    let rows = PoseRows {
-        r: [one, 0, 0, 0, one, 0, 0, 0, one],
-        t: point(0, 0, 0),
-    };
-    let pose = Pose::accept(&rows).map_err(|_| Fail::from("pose"))?;
+    let pose = at_origin()?;
     assert!(rt; camera.active(&pose, key(0, 0, 12)));
     assert!(rt; !camera.active(&pose, key(26, 0, 12)));
     assert!(rt; camera.may_see(&pose, key(0, 0, 12)));
     for (name, x, z) in [("behind", 0, -13), ("too far", 0, 400), ("beside", 100, 12)] {
         assert!(rt; !camera.may_see(&pose, key(x, 0, z)), "{name}");
+    }
+    Ok(())
+}
+
+#[test]
+fn chunks_may_hold_active_blocks(rt: HostRuntime) -> Result<(), Fail> {
+    let camera = Camera::make(BASE).map_err(|_| Fail::from("camera"))?;
+    let pose = at_origin()?;
+    // Of chunk (3, 1, 2) only the block (24, 8, 16) is active.
+    assert!(rt; camera.active(&pose, key(24, 8, 16)));
+    for (x, y, z) in [(25, 8, 16), (24, 9, 16), (24, 8, 17)] {
+        assert!(rt; !camera.active(&pose, key(x, y, z)));
+    }
+    for (name, x, y, z, may) in [
+        ("round the sphere's centre", 0, 0, 1, true),
+        ("one active block, in a corner", 3, 1, 2, true),
+        ("beside the sphere", 4, 0, 1, false),
+        ("far away", 100, 0, 0, false),
+        ("least coordinates", -32768, -32768, -32768, false),
+    ] {
+        let chunk = ChunkKey { x, y, z };
+        assert_eq!(rt; camera.may_hold_active(&pose, chunk), may, "{name}");
     }
     Ok(())
 }
