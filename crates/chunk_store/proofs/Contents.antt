@@ -23,16 +23,16 @@ use Rattle.chunk_store.proofs.ChunkLaws.{among_keys, by_chunk, chunk_decides, ch
 -- ---- one row
 
 -- the places of a row hold keys of the places from n on
-abbrev Stands : ChunkKey → ℕ → Row → Type 0
+abbrev pub Stands : ChunkKey → ℕ → Row → Type 0
 Stands c n row = (i : ℕ) (h : Held) → held_at row i ≡ Some h → IsKeyOf c (n + i) h.0
 
-further : (c : ChunkKey) (n : ℕ) (place : Option Held) (row : Row) → Stands c n (place ∷ row) → Stands c (suc n) row
+pub further : (c : ChunkKey) (n : ℕ) (place : Option Held) (row : Row) → Stands c n (place ∷ row) → Stands c (suc n) row
 further c n place row s i h e = let m : n + suc i ≡ suc n + i = omega arith in subst (λ (j : ℕ). IsKeyOf c j h.0) m (s (suc i) h e)
 
-here : (c : ChunkKey) (n : ℕ) (h : Held) (row : Row) → Stands c n (Some h ∷ row) → IsKeyOf c n h.0
+pub here : (c : ChunkKey) (n : ℕ) (h : Held) (row : Row) → Stands c n (Some h ∷ row) → IsKeyOf c n h.0
 here c n h row s = let m : n + 0 ≡ n = omega arith in subst (λ (j : ℕ). IsKeyOf c j h.0) m (s 0 h refl)
 
-from_first : (c : ChunkKey) (row : Row) → IsRow c row → Stands c 0 row
+pub from_first : (c : ChunkKey) (row : Row) → IsRow c row → Stands c 0 row
 from_first c row r i h e = let m : i ≡ 0 + i = omega arith in subst (λ (j : ℕ). IsKeyOf c j h.0) m (r i h e)
 
 module _ (q : BlockKey) (c : ChunkKey) where
@@ -41,7 +41,7 @@ module _ (q : BlockKey) (c : ChunkKey) where
   find_other n (None ∷ row) s ne = find_other (suc n) row (further c n None row s) ne
   find_other n (Some h ∷ row) s ne = cond-false (same_key q h.0) _ _ (other_key q h.0 (λ e. ne (ap chunk_of e ∙ (here c n h row s).chunk))) ∙ find_other (suc n) row (further c n (Some h) row s) ne
 
-  find_past : (n : ℕ) (row : Row) → Stands c n row → place_of q < n → find key_cmp q (held_in row) ≡ None
+  pub find_past : (n : ℕ) (row : Row) → Stands c n row → place_of q < n → find key_cmp q (held_in row) ≡ None
   find_past n [] s lt = refl
   find_past n (None ∷ row) s lt = find_past (suc n) row (further c n None row s) (omega arith)
   find_past n (Some h ∷ row) s lt =
@@ -85,17 +85,17 @@ abbrev pub AreRows : Rows → Type 0
 AreRows es = (c : ChunkKey) (row : Row) → lookup (chunk_eq c) es ≡ Some row → IsRow c row
 
 -- no later row is of the chunk of the first
-none_later : (e : ChunkKey × Row) (es : Rows) (c : ChunkKey) → IsDistinct chunk_eq (keys_of (e ∷ es)) → chunk_eq c e.0 ≡ true → lookup (chunk_eq c) es ≡ None
+pub none_later : (e : ChunkKey × Row) (es : Rows) (c : ChunkKey) → IsDistinct chunk_eq (keys_of (e ∷ es)) → chunk_eq c e.0 ≡ true → lookup (chunk_eq c) es ≡ None
 none_later e es c d t = lookup-none (chunk_eq c) es (none_past_head chunk_equiv c e es d t)
 
-rows_later : (e : ChunkKey × Row) (es : Rows) → IsDistinct chunk_eq (keys_of (e ∷ es)) → AreRows (e ∷ es) → AreRows es
+pub rows_later : (e : ChunkKey × Row) (es : Rows) → IsDistinct chunk_eq (keys_of (e ∷ es)) → AreRows (e ∷ es) → AreRows es
 rows_later e es d r c row found =
     elim (cases_Bool (chunk_eq c e.0)) [
       | inl t ↦ (let z : ◌≡◌ {A = Option Row} None (Some row) = sym (none_later e es c d t) ∙ found in absurd (cc))
       | inr f ↦ r c row (cond-false (chunk_eq c e.0) _ _ f ∙ found)
     ]
 
-first_row : (e : ChunkKey × Row) (es : Rows) → AreRows (e ∷ es) → IsRow e.0 e.1
+pub first_row : (e : ChunkKey × Row) (es : Rows) → AreRows (e ∷ es) → IsRow e.0 e.1
 first_row e es r = r e.0 e.1 (cond-true (chunk_eq e.0 e.0) _ _ (chunk_equiv.refl e.0))
 
 pub find_held : (es : Rows) (q : BlockKey) → IsDistinct chunk_eq (keys_of es) → AreRows es

@@ -1,6 +1,7 @@
 -- The blocks of one chunk: a place for each of its 512 keys.
 use Rattle.std.specs.Prelude.{◌≡◌, ℕ, ◌+◌, ◌*◌, ◌^◌, ◌<◌, ◌-ℤ◌, ℤ, pos, unsigned_abs, Bool, ◌&&◌, List, [], ◌∷◌, Option, None, Some, slice_get}
 use Rattle.std.specs.List.{cons_option}
+use Rattle.std.specs.Map.{keys_of}
 use Rattle.std.specs.Option.{option_and_then, option_map}
 use Rattle.std.specs.Int.{int_rem_euclid}
 use Rattle.std.specs.Ordering.{int_eq}
@@ -37,6 +38,10 @@ held_at row i = option_and_then (λ place. place) (slice_get row i)
 abbrev pub held_in : Row → List Held
 held_in [] = []
 held_in (place ∷ places) = cons_option place (held_in places)
+
+-- the keys of what the row holds
+abbrev pub keys_in : Row → List BlockKey
+keys_in row = keys_of (held_in row)
 
 -- the bytes that a chunk's row has at a key
 abbrev pub bytes_in : Row → BlockKey → Option (List ℕ)

@@ -2,7 +2,7 @@
 use Rattle.std.specs.Prelude.{◌≡◌, ℕ, List, map, Some}
 use Rattle.std.specs.FinMap.{FinMap, from_entries, len}
 use Rattle.std.specs.FinSet.{FinSet, from_list, union}
-use Rattle.std.specs.List.{flat_map, IsDistinct}
+use Rattle.std.specs.List.{AllByRecursion, flat_map, IsDistinct}
 use Rattle.std.specs.Map.{keys_of, lookup}
 use Rattle.voxel_block.specs.declared.chunk.ChunkKey.{ChunkKey}
 use Rattle.voxel_block.specs.Keys.{key_cmp}
@@ -18,6 +18,14 @@ pub record Stored : Type 0 where
 -- what all rows hold
 abbrev pub held_of : List (ChunkKey × Row) → List Held
 held_of es = flat_map (λ e. held_in e.1) es
+
+-- the keys of what all rows hold
+abbrev pub all_keys : List (ChunkKey × Row) → List BlockKey
+all_keys es = keys_of (held_of es)
+
+-- each row is one of its chunk
+abbrev pub AreOfChunks : List (ChunkKey × Row) → Type 0
+AreOfChunks es = AllByRecursion (λ e. IsRow e.0 e.1) es
 
 -- what the rows hold, as a map
 unfoldable pub contents_of : List (ChunkKey × Row) → FinMap key_cmp (List ℕ)

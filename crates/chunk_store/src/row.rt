@@ -1,10 +1,12 @@
-ghost use Rattle.std.specs.Prelude.{◌≡◌, ◌<◌, ◌==◌, None, Some, false, option_map, IfOk, length, replicate, slice_set};
-ghost use Rattle.std.specs.List.{list_any};
-ghost use Rattle.chunk_store.specs.Rows.{held_at, held_in};
+ghost use Rattle.std.specs.Prelude.{◌≡◌, ◌<◌, ◌++◌, None, Some, filter, option_map, IfOk, OnOk, length, replicate, slice_set};
+ghost use Rattle.camera.specs.Cameras.{is_active};
+ghost use Rattle.chunk_store.specs.Rows.{IsRow, held_at, keys_in};
 
+use camera::Camera;
+use fixed_geom::Pose;
 use std::alloc::{AllocError, Global};
 use std::marker::Model;
-use voxel_block::{BlockKey, Packed};
+use voxel_block::{BlockKey, ChunkKey, Packed};
 
 /// The number of blocks in a chunk.
 pub(crate) const PLACES: usize = 512;
@@ -75,5 +77,53 @@ impl Row {
     {
         let (_, packed) = self.places[place].as_ref()?;
         Some(packed)
+    }
+
+    // Adds the keys of the row's blocks.
+    pub(crate) fn add_keys(&self, keys: &mut Vec<BlockKey>) -> Result<(), AllocError>
+        ensures { OnOk result (keys.new.items ≡ keys.old.items ++ keys_in self.now) }
+    {
+        for place in &self.places {
+            if let Some((key, _)) = place {
+                keys.push(*key)?;
+            }
+        }
+        Ok(())
+    }
+
+    // Adds the keys of those blocks of this row, which is the chunk's, that are active.
+    pub(crate) fn add_active(
+        &self,
+        chunk: ChunkKey,
+        camera: &Camera,
+        pose: &Pose,
+        keys: &mut Vec<BlockKey>,
+    ) -> Result<(), AllocError>
+        requires { IsRow chunk self.now }
+        ensures { OnOk result (keys.new.items ≡ keys.old.items ++ filter (is_active camera.now pose.now) (keys_in self.now)) }
+    {
+        if self.held == 0 || !camera.may_hold_active(pose, chunk) {
+            return Ok(());
+        }
+        self.test_each(camera, pose, keys)
+    }
+
+    // Tests each block of the row whether it is active, and adds its key if so.
+    fn test_each(
+        &self,
+        camera: &Camera,
+        pose: &Pose,
+        keys: &mut Vec<BlockKey>,
+    ) -> Result<(), AllocError>
+        ensures { OnOk result (keys.new.items ≡ keys.old.items ++ filter (is_active camera.now pose.now) (keys_in self.now)) }
+    {
+        for place in &self.places {
+            if let Some((key, _)) = place {
+                if camera.active(pose, *key) {
+                    keys.push(*key)?;
+                }
+            }
+        }
+        Ok(())
     }
 }

@@ -1,12 +1,16 @@
-ghost use Rattle.std.specs.Prelude.{◌≡◌, None, Some, IfSome, IsSome, OnErr, OnOk, option_and_then, option_map};
+ghost use Rattle.std.specs.Prelude.{◌≡◌, None, Some, filter, IfOk, IfSome, IsSome, OnErr, OnOk, option_and_then, option_map};
 ghost use Rattle.indexmap.specs.IndexMap.{get, IsUnchanged};
 ghost use Rattle.voxel_block.specs.Chunks.{chunk_of};
 ghost use Rattle.voxel_block.specs.Words.{key_of, word_of};
+ghost use Rattle.camera.specs.Cameras.{is_active};
+ghost use Rattle.chunk_store.specs.Store.{AreOfChunks, all_keys};
 ghost use Rattle.chunk_store.specs.Changes.{Opens, Writes};
 ghost use Rattle.chunk_store.specs.Rows.{bytes_in, chunk_eq};
 
 use crate::place::place_of;
 use crate::row::Row;
+use camera::Camera;
+use fixed_geom::Pose;
 use indexmap::IndexMap;
 use std::alloc::Global;
 use voxel_block::{BlockKey, ChunkKey, NoMemory, Packed};
@@ -57,4 +61,36 @@ pub(crate) fn peek(rows: &IndexMap<ChunkKey, Row>, key: BlockKey) -> Option<&Pac
     ensures { option_map (λ p. p.now) result ≡ option_and_then (λ row. bytes_in row key) (get chunk_eq rows.now (chunk_of key)) }
 {
     rows.get(&key.chunk())?.peek(place_of(key))
+}
+
+// The keys of all blocks, in the order of rows.
+pub(crate) fn keys(
+    rows: &IndexMap<ChunkKey, Row>,
+    alloc: Global,
+    count: usize,
+) -> Result<Vec<BlockKey>, NoMemory>
+    ensures { IfOk result (λ v. v.items ≡ all_keys rows.now.entries) }
+{
+    let mut keys = Vec::with_capacity(alloc, count)?;
+    for (_, row) in rows {
+        row.add_keys(&mut keys)?;
+    }
+    Ok(keys)
+}
+
+// The keys of the active blocks, in the order of rows.
+pub(crate) fn active_keys(
+    rows: &IndexMap<ChunkKey, Row>,
+    alloc: Global,
+    camera: &Camera,
+    pose: &Pose,
+) -> Result<Vec<BlockKey>, NoMemory>
+    requires { AreOfChunks rows.now.entries }
+    ensures { IfOk result (λ v. v.items ≡ filter (is_active camera.now pose.now) (all_keys rows.now.entries)) }
+{
+    let mut keys = Vec::new(alloc);
+    for (chunk, row) in rows {
+        row.add_active(*chunk, camera, pose, &mut keys)?;
+    }
+    Ok(keys)
 }

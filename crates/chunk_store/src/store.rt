@@ -1,11 +1,14 @@
-ghost use Rattle.std.specs.Prelude.{◌≡◌, ◌^◌, ◌≤◌, false, IfOk, IsTrue, OnErr, OnOk, option_map};
+ghost use Rattle.std.specs.Prelude.{◌≡◌, false, filter, IfOk, IsTrue, OnErr, OnOk, option_map};
 ghost use Rattle.std.specs.FinMap.{contains_key, empty as no_blocks, get, insert, keys, len, remove};
 ghost use Rattle.std.specs.FinSet.{contains, empty as no_chunks, insert as with_chunk, is_subset};
 ghost use Rattle.voxel_block.specs.Chunks.{chunk_of};
+ghost use Rattle.camera.specs.Cameras.{is_active};
 ghost use Rattle.chunk_store.specs.Store.{opened_with};
 
 use crate::row::Row;
 use crate::rows;
+use camera::Camera;
+use fixed_geom::Pose;
 use indexmap::IndexMap;
 use std::alloc::Global;
 use std::marker::Model;
@@ -25,7 +28,8 @@ pub struct ChunkStore {
 
 impl Model for ChunkStore {
     ghost use Rattle.chunk_store.specs.Codes.{coded_stored};
-    ghost use Rattle.chunk_store.specs.Store.{IsStore, Stored, stored};
+    ghost use Rattle.camera.specs.Cameras.{is_active};
+ghost use Rattle.chunk_store.specs.Store.{IsStore, Stored, stored};
 
     ghost Value = { Stored };
 
@@ -102,5 +106,30 @@ impl ChunkStore {
         ensures { option_map (λ p. p.now) result ≡ get self.now.contents key }
     {
         rows::peek(&self.rows, key)
+    }
+
+    /// The keys of all blocks, in order.
+    pub fn keys(&self, alloc: Global) -> Result<Vec<BlockKey>, NoMemory>
+        ensures { IfOk result (λ v. v.items ≡ keys self.now.contents) }
+    {
+        let mut keys = rows::keys(&self.rows, alloc, self.count)?;
+        keys.sort_unstable();
+        Ok(keys)
+    }
+
+    /// The keys of the blocks that are active at a pose, in order.
+    ///
+    /// Chunks that hold no active block by `Camera::may_hold_active` are left out as a whole.
+    pub fn keys_active(
+        &self,
+        alloc: Global,
+        camera: &Camera,
+        pose: &Pose,
+    ) -> Result<Vec<BlockKey>, NoMemory>
+        ensures { IfOk result (λ v. v.items ≡ filter (is_active camera.now pose.now) (keys self.now.contents)) }
+    {
+        let mut keys = rows::active_keys(&self.rows, alloc, camera, pose)?;
+        keys.sort_unstable();
+        Ok(keys)
     }
 }
