@@ -17,7 +17,7 @@ use Rattle.voxel_block.proofs.KeyLaws.{by_key, exact_keys, gone_elsewhere, gone_
 use Rattle.chunk_store.specs.Rows.{Row, bytes_in, chunk_eq}
 use Rattle.chunk_store.specs.Changes.{Opens, Rows, Writes}
 use Rattle.chunk_store.specs.Store.{IsStore, Stored, contents_of, opened_of, opened_with, stored}
-use Rattle.chunk_store.proofs.ChunkLaws.{by_chunk, chunk_decides, chunks_total, exact_chunks, other_chunk, two_tests}
+use Rattle.chunk_store.proofs.ChunkLaws.{by_chunk, chunk_decides, chunk_itself, chunks_total, exact_chunks, other_chunk, two_tests}
 use Rattle.chunk_store.proofs.Contents.{get_contents, is_opened}
 use Rattle.chunk_store.proofs.Changes.{contents_opened, contents_put, contents_taken, len_gone, opened_more, opened_same, store_opened, store_put, taken_count}
 
@@ -30,6 +30,14 @@ not_held (Some x) e = absurd (cc)
 
 pub nothing_there : (es : Rows) (k : BlockKey) (n : ℕ) → IsStore es n → contains_key (contents_of es) k ≡ false → option_and_then (λ row. bytes_in row k) (lookup (chunk_eq (chunk_of k)) es) ≡ None
 nothing_there es k n s h = sym (get_contents es k s.unique s.rows) ∙ not_held _ h
+
+-- the chunk of a held block is opened
+pub held_is_opened : (es : Rows) (k : BlockKey) (n : ℕ) (v : List ℕ) → IsStore es n → get (contents_of es) k ≡ Some v → contains (opened_of es) (chunk_of k) ≡ true
+held_is_opened es k n v s h = is_opened es (chunk_of k) ∙ at (lookup (chunk_eq (chunk_of k)) es) (sym (get_contents es k s.unique s.rows) ∙ h)
+  where
+    at : (o : Option Row) → option_and_then (λ row. bytes_in row k) o ≡ Some v → is_some o ≡ true
+    at None e = absurd (cc)
+    at (Some row) e = refl
 
 -- ---- no row
 
@@ -194,3 +202,15 @@ with_some s t ks i is =
     among_more p xs zero h = absurd (cc)
     among_more p [] (suc j) h = absurd (cc)
     among_more p (x ∷ xs) (suc j) h = more (p (chunk_of x)) _ _ (among_more p xs j) h
+
+-- the chunk of each of the keys is opened
+pub opens_each : (s : FinSet chunk_cmp) (ks : List BlockKey) (i : ℕ) (d : BlockKey) → i < length ks → contains (opened_with s ks) (chunk_of (get_or ks i d)) ≡ true
+opens_each s ks i d lt = is_with s ks (chunk_of (get_or ks i d)) ∙ ap (λ b. contains s (chunk_of (get_or ks i d)) || b) (among ks i lt) ∙ or_true (contains s (chunk_of (get_or ks i d)))
+  where
+    or_true : (b : Bool) → (b || true) ≡ true
+    or_true true = refl
+    or_true false = refl
+    among : (xs : List BlockKey) (j : ℕ) → j < length xs → list_any (eq_by_cmp chunk_cmp (chunk_of (get_or xs j d))) (map chunk_of xs) ≡ true
+    among [] j lt = absurd (omega arith)
+    among (x ∷ xs) zero lt = ap (λ b. b || list_any (eq_by_cmp chunk_cmp (chunk_of x)) (map chunk_of xs)) (two_tests (chunk_of x) (chunk_of x) ∙ chunk_itself (chunk_of x))
+    among (x ∷ xs) (suc j) lt = ap (λ b. eq_by_cmp chunk_cmp (chunk_of (get_or xs j d)) (chunk_of x) || b) (among xs j (omega arith)) ∙ or_true _

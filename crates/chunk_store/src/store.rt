@@ -1,4 +1,4 @@
-ghost use Rattle.std.specs.Prelude.{◌≡◌, false, filter, IfOk, IsTrue, OnErr, OnOk, option_map};
+ghost use Rattle.std.specs.Prelude.{◌≡◌, false, filter, IfOk, IfSome, IsTrue, OnErr, OnOk, option_map};
 ghost use Rattle.std.specs.FinMap.{contains_key, empty as no_blocks, get, insert, keys, len, remove};
 ghost use Rattle.std.specs.FinSet.{contains, empty as no_chunks, insert as with_chunk, is_subset};
 ghost use Rattle.voxel_block.specs.Chunks.{chunk_of};
@@ -95,6 +95,7 @@ impl ChunkStore {
     pub fn take(&mut self, key: BlockKey) -> Option<Packed>
         ensures value { result ≡ get self.old.contents key }
         ensures store { self.new ≡ record self.old { contents = remove self.old.contents key } }
+        ensures opened { IfSome result (λ _. IsTrue (contains self.new.opened (chunk_of key))) }
     {
         let packed = rows::take(&mut self.rows, key)?;
         self.count -= 1;
@@ -103,7 +104,8 @@ impl ChunkStore {
 
     /// The block of a key. `None` where the store has none.
     pub fn peek(&self, key: BlockKey) -> Option<&Packed>
-        ensures { option_map (λ p. p.now) result ≡ get self.now.contents key }
+        ensures value { option_map (λ p. p.now) result ≡ get self.now.contents key }
+        ensures opened { IfSome result (λ _. IsTrue (contains self.now.opened (chunk_of key))) }
     {
         rows::peek(&self.rows, key)
     }

@@ -1,9 +1,11 @@
 use Rattle.std.proofs.Common.{◌≡◌, ◌+◌, ◌≤◌, List, ℕ, sym, ap, ◌∙◌}
 use Rattle.std.specs.Prelude.{Option, Some, None}
 use Rattle.std.specs.FinMap.{get, remove}
+use Rattle.std.specs.FinSet.{contains}
+use Rattle.voxel_block.specs.Chunks.{chunk_of}
 use Rattle.chunk_store.specs.Store.{Stored, contents_of}
 use Rattle.chunk_store.proofs.Contents.{get_contents}
-use Rattle.chunk_store.proofs.Stores.{Taken, as_many, block_taken, one_less, some_held}
+use Rattle.chunk_store.proofs.Stores.{Taken, as_many, block_taken, held_is_opened, one_less, some_held}
 use Rattle.chunk_store.proofs.store.ChunkStore.take.Goals as goal
 use Rattle.chunk_store.proofs.store.ChunkStore.take.Goals.{After-from_residual, After-self-1}
 
@@ -45,3 +47,6 @@ returns-clause-value c = sym (held c) ∙ ap (λ (s : Stored). get s.contents c.
 
 pub returns-clause-store : goal.returns-clause-store
 returns-clause-store c = (λ i. record { contents = (taken c).contents i; opened = (taken c).opened i }) ∙ ap (λ (s : Stored). record { contents = remove s.contents c.args.key; opened = s.opened }) c.self.view_is
+
+pub returns-clause-opened : goal.returns-clause-opened
+returns-clause-opened c = ap (λ s. contains s (chunk_of c.args.key)) (taken c).opened ∙ held_is_opened c.self.inside.rows.entries c.args.key c.self.inside.count c.in_ok-packed.packed c.self.invariant (held c)
