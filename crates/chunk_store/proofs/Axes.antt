@@ -1,7 +1,7 @@
 -- A key from its chunk and its place in the chunk.
-use Rattle.std.proofs.Common.{◌≡◌, ℕ, ◌+◌, ◌*◌, ◌/◌, ◌%◌, ◌-◌, ◌<◌, ◌≤◌, ℤ, refl, sym, ap, ◌∙◌, arith}
-use Rattle.std.specs.Prelude.{pos, negsuc, unsigned_abs}
-use Rattle.std.specs.Int.{int_div_euclid, int_rem_euclid}
+use Rattle.std.proofs.Common.{◌≡◌, ℕ, ◌+◌, ◌*◌, ◌/◌, ◌<◌, ℤ, ap, arith}
+use Rattle.std.specs.Prelude.{pos, negsuc}
+use Rattle.std.specs.Int.{int_div_euclid}
 use Rattle.voxel_block.specs.declared.key.BlockKey.{BlockKey}
 use Rattle.voxel_block.specs.declared.chunk.ChunkKey.{ChunkKey}
 use Rattle.voxel_block.specs.Chunks.{chunk_of}

@@ -1,5 +1,5 @@
 -- A store holds at most 2^48 blocks, one for each key of 16 bits a coordinate.
-use Rattle.std.proofs.Common.{◌≡◌, ◌≢◌, ℕ, ◌+◌, ◌<◌, ◌≤◌, ◌^◌, T, List, [], ◌∷◌, length, map, true, false, cond, ◌&&◌, ◌||◌, refl, sym, ap, ◌∙◌, arith, inl, inr, subst}
+use Rattle.std.proofs.Common.{◌≡◌, ℕ, ◌+◌, ◌<◌, ◌≤◌, ◌^◌, T, List, [], ◌∷◌, length, map, true, false, ◌&&◌, ◌||◌, refl, sym, ap, ◌∙◌, arith, inl, inr, subst}
 use Rattle.std.specs.Prelude.{Bool, Option, Some, None, is_some, nat_lt, ◌==◌}
 use Rattle.std.specs.Option.{option_and_then, option_map}
 use Rattle.std.specs.List.{AllByRecursion, IsDistinct, list_any}
@@ -8,23 +8,23 @@ use Rattle.std.specs.Map.{keys_of, lookup}
 use Rattle.std.specs.Ordering.{is_lt}
 use Rattle.std.specs.declared.cmp.Ordering.{Ordering}
 use Rattle.std.specs.declared.cmp.Ordering.TheVariants.{Less, Equal, Greater}
-use Rattle.std.specs.FinMap.{FinMap, contains_key, contains_key-keys, entries, entries_sorted, get, is_sorted, keys, len, len-entries}
+use Rattle.std.specs.FinMap.{FinMap, contains_key-keys, entries, entries_sorted, is_sorted, keys, len, len-entries}
 use Rattle.std.specs.FinMap.Entries.{below_all}
 use Rattle.std.proofs.Math.Dec.{eqb}
-use Rattle.std.proofs.lemmas.Bool.{cases_Bool, cond-true, cond-false, eqb-true, false_from_ne_true, ltb-false, or_parts}
+use Rattle.std.proofs.lemmas.Bool.{cases_Bool, cond-true, eqb-true, false_from_ne_true, ltb-false, or_parts}
 use Rattle.std.proofs.lemmas.List.{length-map}
-use Rattle.std.proofs.lemmas.Map.Keys.{IsDistinct-cons, IsDistinct-head, IsDistinct-tail, IsDistinct-from_sorted}
+use Rattle.std.proofs.lemmas.Map.Keys.{IsDistinct-from_sorted}
 use Rattle.std.proofs.lemmas.Map.Steps.{length-le_from_distinct_below}
 use Rattle.voxel_block.specs.declared.key.BlockKey.{BlockKey}
 use Rattle.voxel_block.specs.Chunks.{chunk_of}
 use Rattle.voxel_block.specs.Keys.{key_cmp, same_key}
-use Rattle.voxel_block.specs.Words.{key_of, key_with, word_of}
+use Rattle.voxel_block.specs.Words.{key_of, word_of}
 use Rattle.voxel_block.proofs.KeyLaws.{key_itself}
-use Rattle.chunk_store.specs.Rows.{Held, IsKeyOf, IsRow, Row, bytes_in, chunk_eq, held_at, place_of}
+use Rattle.chunk_store.specs.Rows.{Held, IsRow, Row, bytes_in, chunk_eq, held_at, place_of}
 use Rattle.chunk_store.specs.Changes.{Rows}
 use Rattle.chunk_store.specs.Store.{IsStore, contents_of}
 use Rattle.chunk_store.proofs.Axes.{same_block}
-use Rattle.chunk_store.proofs.Contents.{AreRows, get_contents}
+use Rattle.chunk_store.proofs.Contents.{get_contents}
 
 -- ---- the keys of a map rise
 
@@ -76,11 +76,14 @@ all_in P (k ∷ ks) f = (f k (ap (λ b. b || list_any (same_key k) ks) (key_itse
 
 apart : (k : BlockKey) (ks : List BlockKey) → IsShort k → AllByRecursion IsShort ks → AllByRecursion (λ y. same_key k y ≡ false) ks → AllByRecursion (λ w. eqb (word_of k) w ≡ false) (map word_of ks)
 apart k [] s all ne = tt
-apart k (y ∷ ys) s all ne = (false_from_ne_true _ (λ t.
-    let w : word_of k ≡ word_of y = eqb-true (word_of k) (word_of y) t in
-    let e : Some k ≡ Some y = sym s ∙ ap key_of w ∙ all.0 in
-    let one : k ≡ y = cc in
-    let z : false ≡ true = sym ne.0 ∙ ap (same_key k) (sym one) ∙ key_itself k in absurd (cc)), apart k ys s all.1 ne.1)
+apart k (y ∷ ys) s all ne = (
+  false_from_ne_true _ (λ t.
+      let w : word_of k ≡ word_of y = eqb-true (word_of k) (word_of y) t in
+      let e : Some k ≡ Some y = sym s ∙ ap key_of w ∙ all.0 in
+      let one : k ≡ y = cc in
+      let z : false ≡ true = sym ne.0 ∙ ap (same_key k) (sym one) ∙ key_itself k in absurd (cc)),
+  apart k ys s all.1 ne.1,
+)
 
 words_distinct : (ks : List BlockKey) → AllByRecursion IsShort ks → IsDistinct same_key ks → IsDistinct eqb (map word_of ks)
 unfolding IsDistinct

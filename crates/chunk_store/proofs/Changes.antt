@@ -1,15 +1,15 @@
 -- Rows of which one place changes, and rows with one more row.
-use Rattle.std.proofs.Common.{◌≡◌, ◌≢◌, ℕ, zero, suc, ◌+◌, ◌-◌, ◌<◌, ◌≤◌, ◌^◌, List, [], ◌∷◌, length, set, true, false, cond, refl, sym, ap, ◌∙◌, arith, inl, inr, subst, ◌||◌}
+use Rattle.std.proofs.Common.{◌≡◌, ◌≢◌, ℕ, zero, suc, ◌+◌, ◌-◌, ◌<◌, List, length, set, true, false, cond, refl, sym, ap, ◌∙◌, arith, subst, ◌||◌}
 use Rattle.std.specs.Prelude.{Bool, Option, Some, None, is_some, replicate}
 use Rattle.std.specs.Option.{option_and_then, option_map}
 use Rattle.std.specs.List.{IsDistinct}
 use Rattle.std.specs.Map.{keys_of, lookup}
 use Rattle.std.specs.FinMap.{FinMap, contains_key, empty_of_len, get, get-empty, insert, len, len-remove, remove, same_map}
-use Rattle.std.specs.FinSet.{contains, contains-insert, from_list, same_set, insert as with_item}
-use Rattle.std.proofs.lemmas.Bool.{cases_Bool, cond-true, cond-false}
+use Rattle.std.specs.FinSet.{contains-insert, from_list, same_set, insert as with_item}
+use Rattle.std.proofs.lemmas.Bool.{cond-true, cond-false}
 use Rattle.voxel_block.specs.declared.key.BlockKey.{BlockKey}
 use Rattle.voxel_block.specs.declared.chunk.ChunkKey.{ChunkKey}
-use Rattle.voxel_block.specs.Chunks.{chunk_cmp, chunk_of}
+use Rattle.voxel_block.specs.Chunks.{chunk_of}
 use Rattle.voxel_block.specs.Keys.{key_cmp}
 use Rattle.voxel_block.specs.Words.{key_of, word_of}
 use Rattle.voxel_block.proofs.KeyLaws.{by_key, exact_keys, gone_elsewhere, gone_here, keys_total, len_put, put_elsewhere, put_here}
@@ -17,7 +17,7 @@ use Rattle.chunk_store.specs.Rows.{Held, IsKeyOf, IsRow, Row, bytes_in, chunk_eq
 use Rattle.chunk_store.specs.Changes.{Opens, Rows, Writes}
 use Rattle.chunk_store.specs.Store.{IsStore, contents_of, opened_of}
 use Rattle.chunk_store.proofs.Axes.{place_low, same_block}
-use Rattle.chunk_store.proofs.ChunkLaws.{by_chunk, chunk_decides, chunk_equiv, chunk_itself, chunks_total, exact_chunks, other_chunk, two_tests}
+use Rattle.chunk_store.proofs.ChunkLaws.{by_chunk, chunk_equiv, chunk_itself, chunks_total, exact_chunks, other_chunk, two_tests}
 use Rattle.chunk_store.proofs.Contents.{AreRows, get_contents, is_opened}
 use Rattle.chunk_store.proofs.Counts.{held_at_none, written_elsewhere, written_here}
 

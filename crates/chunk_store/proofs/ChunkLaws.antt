@@ -1,6 +1,6 @@
 -- Chunks that compare alike are one.
 use Rattle.std.proofs.Common.{◌≡◌, ◌≢◌, ℤ, true, false, refl, sym, ap, ◌∙◌, inl, inr, List, [], ◌∷◌, cond, ◌||◌}
-use Rattle.std.specs.Prelude.{Option, Some, None, is_some}
+use Rattle.std.specs.Prelude.{Some, is_some}
 use Rattle.std.specs.Bool.{Decides}
 use Rattle.std.specs.Cmp.{IsEquivalence, IsTotalOrder, Equal-is, decided, eq_by_cmp_equiv}
 use Rattle.std.specs.Ordering.{eq_by_cmp, int_cmp, int_eq, ordering_then}

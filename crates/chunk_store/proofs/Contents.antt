@@ -1,5 +1,5 @@
 -- What a store's rows hold, key by key.
-use Rattle.std.proofs.Common.{◌≡◌, ◌≢◌, ℕ, zero, suc, ◌+◌, ◌<◌, ◌≤◌, List, [], ◌∷◌, ◌++◌, true, false, cond, refl, sym, ap, ◌∙◌, arith, inl, inr, subst}
+use Rattle.std.proofs.Common.{◌≡◌, ◌≢◌, ℕ, zero, suc, ◌+◌, ◌<◌, List, [], ◌∷◌, ◌++◌, true, false, cond, refl, sym, ap, ◌∙◌, arith, inl, inr, subst}
 use Rattle.std.specs.Prelude.{Option, Some, None, is_some}
 use Rattle.std.specs.Option.{option_and_then, option_map, option_or}
 use Rattle.std.specs.List.{IsDistinct}
@@ -14,11 +14,11 @@ use Rattle.voxel_block.specs.declared.key.BlockKey.{BlockKey}
 use Rattle.voxel_block.specs.declared.chunk.ChunkKey.{ChunkKey}
 use Rattle.voxel_block.specs.Chunks.{chunk_of}
 use Rattle.voxel_block.specs.Keys.{key_cmp, same_key}
-use Rattle.voxel_block.proofs.KeyLaws.{by_key, key_itself, keys_total, other_key}
+use Rattle.voxel_block.proofs.KeyLaws.{key_itself, keys_total, other_key}
 use Rattle.chunk_store.specs.Rows.{Held, IsKeyOf, IsRow, Row, bytes_in, chunk_eq, held_at, held_in, place_of}
-use Rattle.chunk_store.specs.Store.{IsStore, contents_of, held_of, opened_of}
+use Rattle.chunk_store.specs.Store.{contents_of, held_of, opened_of}
 use Rattle.chunk_store.proofs.Axes.{same_block}
-use Rattle.chunk_store.proofs.ChunkLaws.{among_keys, by_chunk, chunk_decides, chunk_equiv, chunks_total, other_chunk}
+use Rattle.chunk_store.proofs.ChunkLaws.{among_keys, chunk_decides, chunk_equiv, chunks_total}
 
 -- ---- one row
 

@@ -1,17 +1,17 @@
 -- The keys of all rows, in order.
-use Rattle.std.proofs.Common.{◌≡◌, ◌≢◌, ℕ, zero, suc, ◌+◌, ◌<◌, ◌≤◌, List, [], ◌∷◌, ◌++◌, length, map, get_or, true, false, cond, ◌&&◌, ◌||◌, refl, sym, ap, ◌∙◌, arith, inl, inr, subst}
+use Rattle.std.proofs.Common.{◌≡◌, ℕ, suc, ◌+◌, List, [], ◌∷◌, ◌++◌, map, get_or, true, false, cond, ◌&&◌, ◌||◌, refl, sym, ap, ◌∙◌, arith, subst}
 use Rattle.std.specs.Prelude.{Bool, Option, Some, None, is_some, filter, pos}
 use Rattle.std.specs.Option.{option_and_then}
 use Rattle.std.specs.Ordering.{is_lt, is_eq, ordering_reverse}
 use Rattle.std.specs.declared.cmp.Ordering.{Ordering}
 use Rattle.std.specs.declared.cmp.Ordering.TheVariants.{Less, Equal, Greater}
-use Rattle.std.specs.Cmp.{Equal-is, eq_by_cmp_equiv}
+use Rattle.std.specs.Cmp.{eq_by_cmp_equiv}
 use Rattle.std.specs.List.{AllByRecursion, IsDistinct, list_any}
 use Rattle.std.specs.List.Sorted.{IsPermutation, IsSorted, IsStrictlySortedBy}
-use Rattle.std.specs.Map.{keys_of, lookup}
-use Rattle.std.specs.FinMap.{FinMap, contains_key, contains_key-keys, find, from_entries, get, get-from_entries, keys, same_map}
+use Rattle.std.specs.Map.{keys_of}
+use Rattle.std.specs.FinMap.{contains_key-keys, from_entries, get, get-from_entries, keys, same_map}
 use Rattle.std.specs.FinMap.Entries.{is_some-find}
-use Rattle.std.proofs.lemmas.Bool.{cases_Bool, cond-true, cond-false, or_parts, true≢false}
+use Rattle.std.proofs.lemmas.Bool.{or_parts, true≢false}
 use Rattle.std.proofs.lemmas.List.{map-append}
 use Rattle.std.proofs.lemmas.List.Kept.{IsStrictlySortedBy-filter}
 use Rattle.std.proofs.lemmas.List.Sorted.{list_any-IsPermutation}
@@ -23,7 +23,7 @@ use Rattle.voxel_block.specs.declared.chunk.ChunkKey.{ChunkKey}
 use Rattle.voxel_block.specs.Chunks.{chunk_of}
 use Rattle.voxel_block.specs.Keys.{key_cmp, same_key}
 use Rattle.voxel_block.proofs.KeyLaws.{exact_keys, keys_of_ordered, keys_total, same_key_is}
-use Rattle.chunk_store.specs.Rows.{Held, IsRow, Row, bytes_in, chunk_eq, held_in, place_of}
+use Rattle.chunk_store.specs.Rows.{Held, Row, bytes_in, chunk_eq, held_in, place_of}
 use Rattle.chunk_store.specs.Changes.{Rows}
 use Rattle.chunk_store.specs.Store.{AreOfChunks, IsStore, all_keys, contents_of, held_of}
 use Rattle.chunk_store.proofs.Bounds.{keys_rise}
@@ -51,7 +51,7 @@ row_apart c n (Some h ∷ row) rest s d others =
     let k = here c n h row s in
     let at : place_of h.0 ≡ n = k.place in
     let none : list_any (same_key h.0) (keys_of (held_in row)) ≡ false =
-        sym (is_some-find key_cmp h.0 (held_in row)) ∙ ap is_some (find_past h.0 c (suc n) row (further c n (Some h) row s) (omega arith)) in
+    sym (is_some-find key_cmp h.0 (held_in row)) ∙ ap is_some (find_past h.0 c (suc n) row (further c n (Some h) row s) (omega arith)) in
     IsDistinct-cons same_key h.0 (keys_of (held_in row) ++ rest)
     (no_other h.0 _ (any_both (same_key h.0) (keys_of (held_in row)) rest none (others h.0 k.chunk)))
     (row_apart c (suc n) row rest (further c n (Some h) row s) d others)
@@ -64,7 +64,7 @@ all_apart (e ∷ es) d r =
     let rt = rows_later e es d r in
     subst (IsDistinct same_key) (sym (map-append (λ (h : Held). h.0) (held_in e.1) (held_of es)))
     (row_apart e.0 0 e.1 (all_keys es) (from_first e.0 e.1 (first_row e es r)) (all_apart es dt rt)
-      (λ q same. sym (is_some-find key_cmp q (held_of es)) ∙ ap is_some (find_held es q dt rt ∙ ap (option_and_then (λ row. bytes_in row q)) (none_later e es (chunk_of q) d ((chunk_decides (chunk_of q) e.0).1 same)))))
+    (λ q same. sym (is_some-find key_cmp q (held_of es)) ∙ ap is_some (find_held es q dt rt ∙ ap (option_and_then (λ row. bytes_in row q)) (none_later e es (chunk_of q) d ((chunk_decides (chunk_of q) e.0).1 same)))))
 
 -- ---- the rows one by one
 

@@ -1,6 +1,6 @@
 -- Rows that hold no active block.
-use Rattle.std.proofs.Common.{◌≡◌, ℕ, zero, suc, ◌+◌, ◌<◌, ◌≤◌, List, [], ◌∷◌, ◌++◌, true, false, cond, refl, sym, ap, ◌∙◌, arith}
-use Rattle.std.specs.Prelude.{Bool, Option, Some, None, is_some, filter}
+use Rattle.std.proofs.Common.{◌≡◌, ℕ, suc, ◌+◌, List, [], ◌∷◌, ◌++◌, false, cond, refl, sym, ap, ◌∙◌, arith}
+use Rattle.std.specs.Prelude.{Bool, Some, None, is_some, filter}
 use Rattle.std.specs.List.{count_by}
 use Rattle.std.proofs.lemmas.Bool.{cond-false}
 use Rattle.std.proofs.lemmas.List.{append-nil}
@@ -8,7 +8,7 @@ use Rattle.std.proofs.lemmas.List.Sums.{sum_by-cons}
 use Rattle.voxel_block.specs.declared.key.BlockKey.{BlockKey}
 use Rattle.voxel_block.specs.declared.chunk.ChunkKey.{ChunkKey}
 use Rattle.voxel_block.specs.Chunks.{chunk_of}
-use Rattle.chunk_store.specs.Rows.{Held, IsRow, Row, keys_in}
+use Rattle.chunk_store.specs.Rows.{IsRow, Row, keys_in}
 use Rattle.chunk_store.proofs.Contents.{Stands, from_first, further, here}
 
 none_held : (row : Row) → count_by is_some row ≡ 0 → keys_in row ≡ []

@@ -1,11 +1,11 @@
 -- What a call of the store does to its map, its chunks and its count.
-use Rattle.std.proofs.Common.{◌≡◌, ◌≢◌, ℕ, zero, suc, ◌+◌, ◌-◌, ◌<◌, ◌≤◌, ◌^◌, ◌*◌, ◌/◌, ◌%◌, List, [], ◌∷◌, ◌++◌, length, map, take, get_or, true, false, cond, refl, sym, ap, ◌∙◌, arith, rules, subst, ◌||◌}
+use Rattle.std.proofs.Common.{◌≡◌, ℕ, zero, suc, ◌+◌, ◌-◌, ◌<◌, ◌≤◌, List, [], ◌∷◌, ◌++◌, length, map, take, get_or, true, false, refl, sym, ap, ◌∙◌, arith, subst, ◌||◌}
 use Rattle.std.specs.Prelude.{Bool, Option, Some, None, is_some, IsSome, IfSome, OnOk, OnErr, Result, Ok, Err}
 use Rattle.std.specs.Option.{option_and_then}
 use Rattle.std.specs.Ordering.{eq_by_cmp}
-use Rattle.std.specs.Map.{keys_of, lookup}
+use Rattle.std.specs.Map.{lookup}
 use Rattle.std.specs.List.{IsDistinct, list_any}
-use Rattle.std.specs.FinMap.{FinMap, contains_key, empty, from_entries, get, get-empty, insert, len, len-empty, remove, same_map}
+use Rattle.std.specs.FinMap.{FinMap, contains_key, empty, get, insert, len, len-empty, remove, same_map}
 use Rattle.std.specs.FinSet.{FinSet, contains, contains-from_list, contains-insert, contains-is_subset, contains-union, is_subset, from_list, same_set, empty as no_chunks, insert as with_chunk}
 use Rattle.std.proofs.lemmas.List.{map-append}
 use Rattle.voxel_block.specs.declared.key.BlockKey.{BlockKey}
@@ -17,7 +17,7 @@ use Rattle.voxel_block.proofs.KeyLaws.{by_key, exact_keys, gone_elsewhere, gone_
 use Rattle.chunk_store.specs.Rows.{Row, bytes_in, chunk_eq}
 use Rattle.chunk_store.specs.Changes.{Opens, Rows, Writes}
 use Rattle.chunk_store.specs.Store.{IsStore, Stored, contents_of, opened_of, opened_with, stored}
-use Rattle.chunk_store.proofs.ChunkLaws.{by_chunk, chunk_decides, chunk_itself, chunks_total, exact_chunks, other_chunk, two_tests}
+use Rattle.chunk_store.proofs.ChunkLaws.{by_chunk, chunk_itself, chunks_total, exact_chunks, other_chunk, two_tests}
 use Rattle.chunk_store.proofs.Contents.{get_contents, is_opened}
 use Rattle.chunk_store.proofs.Changes.{contents_opened, contents_put, contents_taken, len_gone, opened_more, opened_same, store_opened, store_put, taken_count}
 
@@ -117,7 +117,7 @@ one_less es k n v fs s t held =
 already : (es : Rows) (c : ChunkKey) → IsSome (lookup (chunk_eq c) es) → with_chunk (opened_of es) c ≡ opened_of es
 already es c there = same_set chunks_total exact_chunks _ _ (λ q. contains-insert chunks_total (opened_of es) c q ∙ by_chunk q c
     (λ same. (let in_it : contains (opened_of es) q ≡ true = ap (contains (opened_of es)) same ∙ is_opened es c ∙ there in
-        ap (λ b. (eq_by_cmp chunk_cmp q c || b)) in_it ∙ or_true _ ∙ sym in_it))
+    ap (λ b. (eq_by_cmp chunk_cmp q c || b)) in_it ∙ or_true _ ∙ sym in_it))
     (λ ne. ap (λ b. b || contains (opened_of es) q) (two_tests q c ∙ other_chunk q c ne)))
   where
     or_true : (b : Bool) → (b || true) ≡ true
@@ -176,9 +176,9 @@ with_next s ks i k is = same_set chunks_total exact_chunks _ _ (λ q.
     ∙ ap (λ b. eq_by_cmp chunk_cmp q (chunk_of k) || b) (is_with s (take i ks) q)
     ∙ turn (eq_by_cmp chunk_cmp q (chunk_of k)) (contains s q) (list_any (eq_by_cmp chunk_cmp q) (map chunk_of (take i ks)))
     ∙ sym (is_with s (take (i + 1) ks) q
-      ∙ ap (λ xs. contains s q || list_any (eq_by_cmp chunk_cmp q) (map chunk_of xs)) is
-      ∙ ap (λ xs. contains s q || list_any (eq_by_cmp chunk_cmp q) xs) (map-append chunk_of (take i ks) (k ∷ []))
-      ∙ ap (λ b. contains s q || b) (list_any_both (eq_by_cmp chunk_cmp q) (map chunk_of (take i ks)) (chunk_of k ∷ []))))
+    ∙ ap (λ xs. contains s q || list_any (eq_by_cmp chunk_cmp q) (map chunk_of xs)) is
+    ∙ ap (λ xs. contains s q || list_any (eq_by_cmp chunk_cmp q) xs) (map-append chunk_of (take i ks) (k ∷ []))
+    ∙ ap (λ b. contains s q || b) (list_any_both (eq_by_cmp chunk_cmp q) (map chunk_of (take i ks)) (chunk_of k ∷ []))))
   where
     turn : (a b c : Bool) → (a || (b || c)) ≡ (b || (c || (a || false)))
     turn true true true = refl
@@ -191,13 +191,15 @@ with_next s ks i k is = same_set chunks_total exact_chunks _ _ (λ q.
 
 -- chunks stay opened, and no other is opened, when some of the keys were gone through
 pub with_some : (s t : FinSet chunk_cmp) (ks : List BlockKey) (i : ℕ) → t ≡ opened_with s (take i ks) → (is_subset s t ≡ true) × (is_subset t (opened_with s ks) ≡ true)
-with_some s t ks i is =
-    (contains-is_subset chunks_total s t (λ q h. ap (λ x. contains x q) is ∙ is_with s (take i ks) q ∙ ap (λ b. b || list_any (eq_by_cmp chunk_cmp q) (map chunk_of (take i ks))) h),
-    contains-is_subset chunks_total t (opened_with s ks) (λ q h. is_with s ks q ∙ more (contains s q) _ _ (among_more (eq_by_cmp chunk_cmp q) ks i) (sym (is_with s (take i ks) q) ∙ ap (λ x. contains x q) (sym is) ∙ h)))
+with_some s t ks i is = (
+  contains-is_subset chunks_total s t (λ q h. ap (λ x. contains x q) is ∙ is_with s (take i ks) q ∙ ap (λ b. b || list_any (eq_by_cmp chunk_cmp q) (map chunk_of (take i ks))) h),
+  contains-is_subset chunks_total t (opened_with s ks) (λ q h. is_with s ks q ∙ more (contains s q) _ _ (among_more (eq_by_cmp chunk_cmp q) ks i) (sym (is_with s (take i ks) q) ∙ ap (λ x. contains x q) (sym is) ∙ h)),
+)
   where
     more : (a b c : Bool) → (b ≡ true → c ≡ true) → (a || b) ≡ true → (a || c) ≡ true
     more true b c f h = refl
     more false b c f h = f h
+
     among_more : (p : ChunkKey → Bool) (xs : List BlockKey) (j : ℕ) → list_any p (map chunk_of (take j xs)) ≡ true → list_any p (map chunk_of xs) ≡ true
     among_more p xs zero h = absurd (cc)
     among_more p [] (suc j) h = absurd (cc)
@@ -210,6 +212,7 @@ opens_each s ks i d lt = is_with s ks (chunk_of (get_or ks i d)) ∙ ap (λ b. c
     or_true : (b : Bool) → (b || true) ≡ true
     or_true true = refl
     or_true false = refl
+
     among : (xs : List BlockKey) (j : ℕ) → j < length xs → list_any (eq_by_cmp chunk_cmp (chunk_of (get_or xs j d))) (map chunk_of xs) ≡ true
     among [] j lt = absurd (omega arith)
     among (x ∷ xs) zero lt = ap (λ b. b || list_any (eq_by_cmp chunk_cmp (chunk_of x)) (map chunk_of xs)) (two_tests (chunk_of x) (chunk_of x) ∙ chunk_itself (chunk_of x))

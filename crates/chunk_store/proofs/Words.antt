@@ -1,7 +1,7 @@
 -- A key whose coordinates have 16 bits is that of its word.
-use Rattle.std.proofs.Common.{◌≡◌, ◌≢◌, ℕ, ◌+◌, ◌-◌, ◌*◌, ◌/◌, ◌%◌, ◌^◌, ◌<◌, ◌≤◌, ℤ, false, refl, sym, ap, ◌∙◌, arith}
-use Rattle.std.specs.Prelude.{Some, None, ◌==◌, ◌||◌, nat_lt, pos, ◌-ℤ◌, ◌+ℤ◌}
-use Rattle.std.proofs.Common.{to_z, of_z, w16}
+use Rattle.std.proofs.Common.{◌≡◌, ◌≢◌, ℕ, ◌+◌, ◌-◌, ◌*◌, ◌/◌, ◌%◌, ◌^◌, ◌<◌, ◌≤◌, ℤ, false, refl, ◌∙◌, arith}
+use Rattle.std.specs.Prelude.{Some, ◌==◌, ◌||◌, nat_lt}
+use Rattle.std.proofs.Common.{w16}
 use mir.Val.{SFits}
 use Rattle.std.proofs.lemmas.Bool.{cond-false, le-ltb, ne_eqb, or_from}
 use Rattle.std.proofs.lemmas.Int.{ints}

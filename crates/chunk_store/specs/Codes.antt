@@ -5,7 +5,7 @@ use Rattle.std.specs.FinMap.{FinMap, code as map_code}
 use Rattle.std.specs.FinSet.{FinSet, code as set_code}
 use Rattle.voxel_block.specs.Keys.{coded_key, key_cmp}
 use Rattle.voxel_block.specs.Chunks.{chunk_cmp, coded_chunk}
-use Rattle.chunk_store.specs.Rows.{Held, Row}
+use Rattle.chunk_store.specs.Rows.{Row}
 use Rattle.chunk_store.specs.Store.{Stored}
 
 -- a row is stored as the list of its places

@@ -1,5 +1,5 @@
 -- The blocks of one chunk: a place for each of its 512 keys.
-use Rattle.std.specs.Prelude.{◌≡◌, ℕ, ◌+◌, ◌*◌, ◌^◌, ◌<◌, ◌-ℤ◌, ℤ, pos, unsigned_abs, Bool, ◌&&◌, List, [], ◌∷◌, Option, None, Some, slice_get}
+use Rattle.std.specs.Prelude.{◌≡◌, ℕ, ◌+◌, ◌*◌, ◌^◌, ◌<◌, ◌-ℤ◌, ℤ, pos, unsigned_abs, Bool, ◌&&◌, List, [], ◌∷◌, Option, Some, slice_get}
 use Rattle.std.specs.List.{cons_option}
 use Rattle.std.specs.Map.{keys_of}
 use Rattle.std.specs.Option.{option_and_then, option_map}

@@ -16,8 +16,8 @@ use voxel_block::{BlockKey, ChunkKey, NoMemory, Packed};
 
 /// Packed blocks by their keys, chunk by chunk.
 ///
-/// A chunk that is opened has a place for each of its 512 keys, about 12 KB in all, and keeps it until the
-/// store is dropped. So to put a block into an opened chunk, or to take it out, takes no memory.
+/// A chunk that is opened has a place for each of its 512 keys, about 12 KB in all, and stays opened until the
+/// store is dropped. So no memory is taken when a block is put into an opened chunk or taken out of it.
 #[derive(Drop)]
 pub struct ChunkStore {
     /// A row for each opened chunk. A row is never removed.
@@ -29,7 +29,7 @@ pub struct ChunkStore {
 impl Model for ChunkStore {
     ghost use Rattle.chunk_store.specs.Codes.{coded_stored};
     ghost use Rattle.camera.specs.Cameras.{is_active};
-ghost use Rattle.chunk_store.specs.Store.{IsStore, Stored, stored};
+    ghost use Rattle.chunk_store.specs.Store.{IsStore, Stored, stored};
 
     ghost Value = { Stored };
 
@@ -58,9 +58,10 @@ impl ChunkStore {
         self.count
     }
 
-    /// Opens the chunks of these keys, so that each of them can be put.
+    /// Opens the chunks of these keys, so that a block can be put at each. The blocks stay as they are.
     ///
-    /// After an error some of the chunks may be opened.
+    /// Takes about 12 KB for each chunk that was not opened. When it is out of memory, some of the chunks may be
+    /// opened, and what was opened before still is.
     pub fn reserve_out(&mut self, alloc: Global, keys: &[BlockKey]) -> Result<(), NoMemory>
         ensures ok { OnOk result (self.new.opened ≡ opened_with self.old.opened keys.now) }
         ensures contents { self.new.contents ≡ self.old.contents }
@@ -110,7 +111,7 @@ impl ChunkStore {
         rows::peek(&self.rows, key)
     }
 
-    /// The keys of all blocks, in order.
+    /// The keys of all blocks, in order. Takes memory for the keys alone.
     pub fn keys(&self, alloc: Global) -> Result<Vec<BlockKey>, NoMemory>
         ensures { IfOk result (λ v. v.items ≡ keys self.now.contents) }
     {
@@ -121,7 +122,8 @@ impl ChunkStore {
 
     /// The keys of the blocks that are active at a pose, in order.
     ///
-    /// Chunks that hold no active block by `Camera::may_hold_active` are left out as a whole.
+    /// A chunk of which `Camera::may_hold_active` shows that no block is active is left out as a whole.
+    /// Takes memory for the keys alone.
     pub fn keys_active(
         &self,
         alloc: Global,

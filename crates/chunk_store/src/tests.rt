@@ -82,13 +82,22 @@ fn blocks_are_put_and_taken(rt: HostRuntime) -> Result<(), Fail> {
         assert_eq!(rt; first(&store, key), Some(byte));
     }
     assert_eq!(rt; store.len(), 4);
-    assert_eq!(rt; store.keys(rt.alloc())?.as_slice(), [four, three, one, two].as_slice());
+    assert_eq!(rt;
+        store.keys(rt.alloc())?.as_slice(),
+        [four, three, one, two].as_slice()
+    );
     assert!(rt; put_back(&mut store, two));
     let taken = store.take(three);
-    assert_eq!(rt; taken.as_ref().map(Packed::bytes), Some([3; 1542].as_slice()));
+    assert_eq!(rt;
+        taken.as_ref().map(Packed::bytes),
+        Some([3; 1542].as_slice())
+    );
     assert!(rt; !put_back(&mut store, three));
     assert_eq!(rt; store.len(), 3);
-    assert_eq!(rt; store.keys(rt.alloc())?.as_slice(), [four, one, two].as_slice());
+    assert_eq!(rt;
+        store.keys(rt.alloc())?.as_slice(),
+        [four, one, two].as_slice()
+    );
     Ok(())
 }
 

@@ -1,6 +1,5 @@
-use Rattle.std.proofs.Common.{◌≡◌, rules, ap, ◌∙◌, to_z, of_z, w16, refl, sym}
+use Rattle.std.proofs.Common.{◌≡◌, rules, ap, ◌∙◌, to_z, of_z, w16, refl}
 use Rattle.std.specs.Prelude.{pos, unsigned_abs}
-use Rattle.std.specs.Int.{int_rem_euclid}
 use Rattle.std.proofs.lemmas.Int.{to_z-of_z}
 use Rattle.chunk_store.specs.Rows.{offset_of}
 use Rattle.chunk_store.proofs.Words.{is_short}

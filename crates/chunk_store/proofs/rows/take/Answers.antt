@@ -1,4 +1,4 @@
-use Rattle.std.proofs.Common.{◌≡◌, ap, ◌∙◌, List}
+use Rattle.std.proofs.Common.{◌≡◌, ap, ◌∙◌}
 use Rattle.std.specs.Prelude.{Some, None, Option}
 use Rattle.std.specs.Map.{lookup}
 use Rattle.voxel_block.specs.Chunks.{chunk_of}

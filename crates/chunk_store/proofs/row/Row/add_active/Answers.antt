@@ -1,4 +1,4 @@
-use Rattle.std.proofs.Common.{◌≡◌, ◌++◌, false, sym, ap, subst, ◌∙◌}
+use Rattle.std.proofs.Common.{◌++◌, ap, ◌∙◌}
 use Rattle.std.specs.Prelude.{filter}
 use Rattle.camera.specs.Cameras.{is_active}
 use Rattle.chunk_store.specs.Rows.{Row, keys_in}

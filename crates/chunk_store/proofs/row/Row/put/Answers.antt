@@ -1,7 +1,7 @@
-use Rattle.std.proofs.Common.{◌≡◌, ◌<◌, length, sym, rules, arith, ap, ◌∙◌}
+use Rattle.std.proofs.Common.{◌≡◌, ◌<◌, length, rules, ap, ◌∙◌}
 use Rattle.std.proofs.lemmas.List.{length-set}
 use Rattle.chunk_store.specs.Rows.{held_at}
-use Rattle.chunk_store.proofs.Counts.{one_more, written_here}
+use Rattle.chunk_store.proofs.Counts.{one_more}
 use Rattle.chunk_store.proofs.row.Row.put.Goals as goal
 
 pub invariant_of-self : goal.invariant_of-self

@@ -1,4 +1,4 @@
-use Rattle.std.proofs.Common.{◌≡◌, ◌+◌, ◌≤◌, ◌^◌, arith, ap, ◌∙◌}
+use Rattle.std.proofs.Common.{◌+◌, ◌≤◌, ◌^◌, arith, ap, ◌∙◌}
 use Rattle.std.specs.FinMap.{contains_key, insert}
 use Rattle.std.specs.FinSet.{contains}
 use Rattle.voxel_block.specs.Chunks.{chunk_of}

@@ -1,9 +1,8 @@
-use Rattle.std.proofs.Common.{◌≡◌, ◌+◌, ◌<◌, ◌≤◌, length, take, get_or, refl, sym, ap, ◌∙◌}
+use Rattle.std.proofs.Common.{◌≡◌, take, get_or, refl, ap, ◌∙◌}
 use Rattle.std.proofs.lemmas.List.{take_more}
 use Rattle.std.specs.Prelude.{pos}
 use Rattle.std.specs.FinSet.{insert}
 use Rattle.voxel_block.specs.declared.key.BlockKey.{BlockKey}
-use Rattle.voxel_block.specs.Chunks.{chunk_of}
 use Rattle.chunk_store.specs.Store.{Stored, opened_with}
 use Rattle.chunk_store.proofs.Stores.{with_next, with_none, with_some}
 use Rattle.chunk_store.proofs.store.ChunkStore.reserve_out.Goals as goal
