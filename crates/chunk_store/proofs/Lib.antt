@@ -1,0 +1,10 @@
+pub mod Axes
+pub mod ChunkLaws
+pub mod Contents
+pub mod Counts
+pub mod Bounds
+pub mod Changes
+pub mod Listing
+pub mod Skipping
+pub mod Stores
+pub mod Words
