@@ -95,7 +95,7 @@ get_marked ks q =
 the_keys : (ks : List BlockKey) → IsStrictlySortedBy key_cmp ks → keys (from_entries {R = key_cmp} (marked ks)) ≡ ks
 the_keys ks s = keys_of_ordered (marked ks) (subst (IsStrictlySortedBy key_cmp) (sym (keys_of_marked ks)) s) ∙ keys_of_marked ks
 
-same_list : (xs ys : List BlockKey) → IsStrictlySortedBy key_cmp xs → IsStrictlySortedBy key_cmp ys → ((q : BlockKey) → list_any (same_key q) xs ≡ list_any (same_key q) ys) → xs ≡ ys
+pub same_list : (xs ys : List BlockKey) → IsStrictlySortedBy key_cmp xs → IsStrictlySortedBy key_cmp ys → ((q : BlockKey) → list_any (same_key q) xs ≡ list_any (same_key q) ys) → xs ≡ ys
 same_list xs ys s t same =
     sym (the_keys xs s) ∙ ap keys (same_map keys_total exact_keys _ _ (λ q. get_marked xs q ∙ ap (λ b. cond b (Some tt) None) (same q) ∙ sym (get_marked ys q))) ∙ the_keys ys t
 
@@ -112,7 +112,7 @@ rises_by a b Greater e lt ne =
     let q : is_lt Less ≡ false = ap is_lt (sym r) ∙ lt in
     absurd (true≢false q)
 
-in_order : (ks : List BlockKey) → IsSorted key_cmp ks → IsDistinct same_key ks → IsStrictlySortedBy key_cmp ks
+pub in_order : (ks : List BlockKey) → IsSorted key_cmp ks → IsDistinct same_key ks → IsStrictlySortedBy key_cmp ks
 in_order ks s d = sorted_from_all_adjacent keys_total ks zero_key (λ k lt.
     rises_by (get_or ks k zero_key) (get_or ks (k + 1) zero_key) _ refl (s k zero_key (omega arith) (omega arith)) (apart_from_distinct same_key ks k (k + 1) zero_key d (omega arith) (omega arith)))
 

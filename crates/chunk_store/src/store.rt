@@ -1,4 +1,4 @@
-ghost use Rattle.std.specs.Prelude.{◌≡◌, false, filter, IfOk, IfSome, IsTrue, OnErr, OnOk, option_map};
+ghost use Rattle.std.specs.Prelude.{◌≡◌, ◌^◌, ◌≤◌, false, filter, IfOk, IfSome, IsTrue, OnErr, OnOk, option_map};
 ghost use Rattle.std.specs.FinMap.{contains_key, empty as no_blocks, get, insert, keys, len, remove};
 ghost use Rattle.std.specs.FinSet.{contains, empty as no_chunks, insert as with_chunk, is_subset};
 ghost use Rattle.voxel_block.specs.Chunks.{chunk_of};
@@ -53,7 +53,8 @@ impl ChunkStore {
 
     /// The number of blocks.
     pub fn len(&self) -> usize
-        ensures { result ≡ len self.now.contents }
+        ensures value { result ≡ len self.now.contents }
+        ensures bound { result ≤ 2 ^ 49 }
     {
         self.count
     }
