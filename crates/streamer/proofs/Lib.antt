@@ -1,0 +1,10 @@
+pub mod Blocks
+pub mod Counts
+pub mod Keyed
+pub mod Moves
+pub mod NewPlaces
+pub mod Owning
+pub mod Planning
+pub mod Rewriting
+pub mod Sorting
+pub mod Ways
