@@ -68,6 +68,14 @@ impl Frame {
         })
     }
 
+    /// The camera that took the depth map.
+    pub fn camera(&self) -> &Camera
+        ensures value { result.now ≡ self.now.camera }
+        ensures frame { IsFrame self.now }
+    {
+        &self.camera
+    }
+
     /// The pose that the depth map was taken from.
     pub fn pose(&self) -> Pose
         ensures { result ≡ self.now.pose }
