@@ -1,9 +1,11 @@
 mod CountLemmas
 mod FrameLemmas
-mod KeepLemmas
+mod FusingLemmas
 mod KnownLemmas
 mod MovingLemmas
 mod Powers
+mod RoomLemmas
 mod StandingLemmas
 mod SumLemmas
+mod TouchedKeys
 mod UpdatingLemmas

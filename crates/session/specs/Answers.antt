@@ -1,13 +1,14 @@
 -- What a session is to its callers, and what it answers.
 use Rattle.std.specs.Prelude.{◌≡◌, ℕ, ◌<◌, ◌≤◌, Option, Result, Ok, Err, ⊤}
 use Rattle.fixed_geom.specs.Poses.{Pose}
-use Rattle.block_places.specs.Places.{Places, blocks_of}
+use Rattle.streamer.specs.Places.{Places, blocks_of}
+use Rattle.streamer.specs.declared.plan.Plan.{Plan}
 use Rattle.scan_io.specs.Reading.{Cause, refused, no_memory}
 use Rattle.fusion_core.specs.declared.refusal.Refusal.{Refusal}
 use Rattle.fusion_core.specs.declared.refusal.Refusal.TheVariants as refusals
 use Rattle.fusion_core.specs.Fold.{State}
 use Rattle.scan_lang.specs.Config.{Config}
-use Rattle.session.specs.declared.room.Plan.{Plan}
+use Rattle.session.specs.declared.room.Ready.{Ready}
 use Rattle.session.specs.declared.error.FrameError.{FrameError}
 use Rattle.session.specs.declared.error.FrameError.TheVariants as errors
 
@@ -48,7 +49,12 @@ AnswersRoom limit n (Err errors.NoMemory) = ⊤
 AnswersRoom limit n (Err (errors.Size width height)) = ⊥
 AnswersRoom limit n (Err (errors.BadPose why)) = ⊥
 
--- the number of active blocks that a plan has
-abbrev pub resident_of : Result Plan FrameError → Result ℕ FrameError
-resident_of (Ok plan) = Ok plan.resident
+-- the number of active blocks of a frame that is made ready
+abbrev pub resident_of : Result Ready FrameError → Result ℕ FrameError
+resident_of (Ok ready) = Ok ready.plan.need
 resident_of (Err why) = Err why
+
+-- the same of a plan
+abbrev pub need_in : Result Plan FrameError → Result ℕ FrameError
+need_in (Ok plan) = Ok plan.need
+need_in (Err why) = Err why

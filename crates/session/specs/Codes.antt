@@ -4,8 +4,8 @@ use Rattle.std.specs.Coded.{Coded, code_by, coded×, coded_ℕ, coded_ℤ, coded
 use Rattle.fixed_geom.specs.declared.vector.Vec3.{Vec3}
 use Rattle.fixed_geom.specs.Vectors.{vec}
 use Rattle.fixed_geom.specs.Poses.{Pose, of_rows, row_x, row_y, row_z}
-use Rattle.block_places.specs.Codes.{coded_places}
-use Rattle.block_places.specs.Places.{Places}
+use Rattle.streamer.specs.Codes.{coded_places}
+use Rattle.streamer.specs.Places.{Places}
 use Rattle.camera.specs.declared.camera.CameraFields.{CameraFields}
 use Rattle.scan_lang.specs.Config.{Config}
 use Rattle.session.specs.Answers.{SessionView}

@@ -6,3 +6,4 @@ pub mod Rooms
 pub mod SessionView
 pub mod Standing
 pub mod Sums
+pub mod Updating

@@ -4,4 +4,4 @@ use Rattle.session.specs.Answers.{SessionView}
 
 -- the session with these fields
 abbrev pub session_view : Inside → SessionView
-session_view s = record { config = s.config; places = s.places; frames = s.frames; last = s.last }
+session_view s = record { config = s.config; places = s.rest; frames = s.frames; last = s.last }

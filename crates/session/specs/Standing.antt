@@ -3,23 +3,24 @@ use Rattle.std.specs.Prelude.{◌≡◌, ◌↔◌, ◌&&◌, ℕ, ◌+◌, ◌*
 use Rattle.std.specs.FinMap.{get, contains_key, empty}
 use Rattle.voxel_block.specs.declared.key.BlockKey.{BlockKey}
 use Rattle.voxel_block.specs.declared.voxel.Voxel.{Voxel}
+use Rattle.voxel_block.specs.Packing.{packed}
 use Rattle.spatial_hash.specs.Contents.{contents}
 use Rattle.spatial_hash.specs.Table.{Table}
-use Rattle.block_places.specs.Owners.{owner_at}
-use Rattle.block_places.specs.Places.{Places, IsPlaced, blocks_of, cell_of}
+use Rattle.streamer.specs.Owners.{owner_at}
+use Rattle.streamer.specs.Places.{Places, IsPlaced, blocks_of, cell_of}
 use Rattle.fusion_core.specs.Laws.{HasKeysInReach, HasMapWeightsWithin, IsSound}
 use Rattle.scan_lang.specs.Config.{Config}
 use Rattle.session.specs.Answers.{SessionView, state_of}
 use Rattle.session.specs.Fold.{settings_of, is_active_last}
 
--- the block of a key lies in its slot, and in no cell
+-- the block of a key lies in the store, and in no cell
 pub record IsStored (p : Places) (b : BlockKey) : Type 0 where
-  pub slot : (v : List Voxel) × (get p.slots b ≡ Some (Some v))
+  pub form : (bytes : List ℕ) × (get p.store.contents b ≡ Some bytes)
   pub no_cell : (n : ℕ) (v : List Voxel) → owner_at p.heap n ≡ Some (b, v) → ⊥
 
--- the block of a key is resident: it lies in exactly one cell, and its slot is empty
+-- the block of a key is resident: it lies in exactly one cell, and not in the store
 pub record IsResident (p : Places) (b : BlockKey) : Type 0 where
-  pub slot : get p.slots b ≡ Some None
+  pub unstored : get p.store.contents b ≡ None
   pub cell : (n : ℕ) × (v : List Voxel) × (owner_at p.heap n ≡ Some (b, v))
   pub only : (m n : ℕ) (v w : List Voxel) → owner_at p.heap m ≡ Some (b, v) → owner_at p.heap n ≡ Some (b, w) → m ≡ n
 
@@ -32,11 +33,11 @@ pub record HasSizeOf (c : Config) (t : Table) : Type 0 where
 pub record Stands (h : SessionView) : Type 0 where
   -- the block of each key of the map lies in just one place
   pub one_place : (b : BlockKey) → IsTrue (contains_key (blocks_of h.places) b) → IsStored h.places b ⊎ IsResident h.places b
-  -- every slot is for a key of the map, and so is every owned cell
-  pub slots : (b : BlockKey) → IsTrue (contains_key h.places.slots b) → IsTrue (contains_key (blocks_of h.places) b)
+  -- the store has keys of the map alone, and every owned cell is for one
+  pub store : (b : BlockKey) → IsTrue (contains_key h.places.store.contents b) → IsTrue (contains_key (blocks_of h.places) b)
   pub owners : (b : BlockKey) (n : ℕ) (v : List Voxel) → owner_at h.places.heap n ≡ Some (b, v) → IsTrue (contains_key (blocks_of h.places) b)
-  -- what lies in a slot or a cell is what the map has at its key
-  pub in_slot : (b : BlockKey) (v : List Voxel) → get h.places.slots b ≡ Some (Some v) → get (blocks_of h.places) b ≡ Some v
+  -- what lies in the store is the packed form of what the map has at its key, and what lies in a cell is that itself
+  pub in_store : (b : BlockKey) (bytes : List ℕ) → get h.places.store.contents b ≡ Some bytes → (v : List Voxel) × (get (blocks_of h.places) b ≡ Some v) × (bytes ≡ packed b v)
   pub in_cell : (b : BlockKey) (n : ℕ) (v : List Voxel) → owner_at h.places.heap n ≡ Some (b, v) → get (blocks_of h.places) b ≡ Some v
   -- the keys in the heap are the keys of the map that are active for the last frame
   pub active : (b : BlockKey) → contains_key (contents h.places.table) b ≡ (contains_key (blocks_of h.places) b && is_active_last h.config.camera h.last b)

@@ -1,6 +1,9 @@
 -- Sums over known voxels.
 use Rattle.std.specs.Prelude.{◌+◌, ◌*◌, ◌≤◌, pos, ◌+ℤ◌, unsigned_abs, Option, None, Some, List, []}
+use Rattle.std.specs.FinMap.{get}
+use Rattle.std.specs.List.{flat_map}
 use Rattle.scan_lang.specs.declared.reply.KnownVoxel.{KnownVoxel}
+use Rattle.fusion_core.specs.Maps.{BlockMap}
 use Rattle.voxel_block.specs.declared.key.BlockKey.{BlockKey}
 use Rattle.voxel_block.specs.declared.voxel.Voxel.{Voxel}
 use Rattle.session.specs.Fold.{known_in}
@@ -10,6 +13,10 @@ use Rattle.session.specs.declared.totals.Sums.{Sums}
 abbrev pub known_in_option : BlockKey → Option (List Voxel) → List KnownVoxel
 known_in_option b None = []
 known_in_option b (Some voxels) = known_in b voxels
+
+-- the known voxels of the blocks that a map has at keys
+abbrev pub known_among : BlockMap → List BlockKey → List KnownVoxel
+known_among m ks = flat_map (λ k. known_in_option k (get m k)) ks
 
 -- the sums over no voxel
 abbrev pub nothing : Sums

@@ -88,6 +88,14 @@ impl fmt::Display for ReadError {
     }
 }
 
+impl From<NoMemory> for ReadError {
+    ghost from_gives = { λ _ e. e ≡ not_read };
+
+    fn from(_: NoMemory) -> Self {
+        ReadError::NoMemory
+    }
+}
+
 impl From<AllocError> for ReadError {
     ghost from_gives = { λ _ e. e ≡ not_read };
 

@@ -1,35 +1,60 @@
-ghost use Rattle.std.specs.Prelude.{◌≡◌, ◌<◌, ◌++◌, pos, ◌+ℤ◌, ◌*ℤ◌, IfOk, OnOk, option_to_list, option_map};
-ghost use Rattle.block_places.specs.Places.{blocks_of};
+ghost use Rattle.std.specs.Prelude.{◌≡◌, ◌<◌, ◌++◌, pos, ◌+ℤ◌, ◌*ℤ◌, IfOk, OnOk, option_to_list};
+ghost use Rattle.std.specs.FinMap.{get};
+ghost use Rattle.streamer.specs.Places.{blocks_of};
 ghost use Rattle.session.specs.Fold.{known_at as known_at_of, known_in, known_voxels as known_voxels_of};
-ghost use Rattle.session.specs.Sums.{known_in_option};
+ghost use Rattle.session.specs.Sums.{known_among, known_in_option};
 
-use block_places::Places;
 use scan_lang::KnownVoxel;
 use std::alloc::{AllocError, Global};
-use voxel_block::{Block, BlockKey, Voxel};
+use streamer::Rest;
+use voxel_block::{Block, BlockKey, NoMemory, Voxel};
 
 /// All known voxels of a map, in the order of keys and indices.
-pub fn known_voxels(alloc: Global, places: &Places) -> Result<Vec<KnownVoxel>, AllocError>
-    ensures { IfOk result (λ v. v.items ≡ known_voxels_of (blocks_of places.now)) }
+///
+/// A stored block is unpacked into a block that is made before the walk.
+pub fn known_voxels(alloc: Global, rest: &Rest) -> Result<Vec<KnownVoxel>, NoMemory>
+    ensures { IfOk result (λ v. v.items ≡ known_voxels_of (blocks_of rest.now)) }
+{
+    let keys = rest.keys(alloc)?;
+    let mut scratch = Block::make(alloc)?;
+    let known = known_at_keys(alloc, rest, &keys, &mut scratch)?;
+    Ok(known)
+}
+
+/// The known voxels of the blocks of these keys, one block after another.
+fn known_at_keys(
+    alloc: Global,
+    rest: &Rest,
+    keys: &[BlockKey],
+    scratch: &mut Block,
+) -> Result<Vec<KnownVoxel>, AllocError>
+    ensures { IfOk result (λ v. v.items ≡ known_among (blocks_of rest.now) keys.now) }
 {
     let mut known = Vec::new(alloc);
-    for key in places.keys() {
-        push_found(&mut known, *key, places.lend(*key))?;
+    for key in keys {
+        push_known(&mut known, rest, *key, scratch)?;
     }
     Ok(known)
 }
 
-/// Appends the known voxels of a block, if there is one.
-fn push_found(
+/// Appends the known voxels of a key's block, wherever it lies.
+fn push_known(
     known: &mut Vec<KnownVoxel>,
+    rest: &Rest,
     key: BlockKey,
-    block: Option<&Block>,
+    scratch: &mut Block,
 ) -> Result<(), AllocError>
-    ensures { OnOk result (known.new.items ≡ known.old.items ++ known_in_option key (option_map (λ b. b.now) block.entry)) }
+    ensures { OnOk result (known.new.items ≡ known.old.items ++ known_in_option key (get (blocks_of rest.now) key)) }
 {
-    match block {
+    match rest.lend(key) {
         Some(block) => push_block(known, key, block),
-        None => Ok(()),
+        None => {
+            if rest.unpack(key, scratch) {
+                push_block(known, key, scratch)
+            } else {
+                Ok(())
+            }
+        }
     }
 }
 

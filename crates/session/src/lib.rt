@@ -1,13 +1,14 @@
 //! The map that a scan's frames are fused into, and the answer to each record.
 #![tactic(auto)]
 
-mod band;
 mod error;
+mod fusing;
 mod known;
 mod moving;
 mod room;
 mod session;
 mod totals;
+mod touching;
 mod updating;
 
 pub use error::{FrameError, ReadError};

@@ -1,91 +1,81 @@
-ghost use Rattle.std.specs.Prelude.{◌≡◌, ◌≤◌, ◌<◌, ◌+◌, ◌&&◌, ◌||◌, not, length, IsTrue, if◌then◌else◌};
-ghost use Rattle.std.specs.FinMap.{contains_key, keys as keys_of};
-ghost use Rattle.std.specs.List.{count_by};
+ghost use Rattle.std.specs.Prelude.{◌≡◌, ◌<◌, ◌≤◌, ◌+◌, ◌&&◌, ◌||◌, false, fold, not, length, IsTrue};
+ghost use Rattle.std.specs.FinMap.{contains_key, remove};
+ghost use Rattle.std.specs.FinSet.{contains};
+ghost use Rattle.std.specs.List.{IsDistinct, list_any};
 ghost use Rattle.voxel_block.specs.declared.key.BlockKey.{BlockKey as Key};
+ghost use Rattle.voxel_block.specs.Chunks.{chunk_of};
 ghost use Rattle.voxel_block.specs.Keys.{same_key};
 ghost use Rattle.spatial_hash.specs.Contents.{contents};
-ghost use Rattle.block_places.specs.Places.{IsPlaced, blocks_of};
-ghost use Rattle.fusion_core.specs.Frames.{is_active};
-ghost use Rattle.fusion_core.specs.Maps.{active_count};
-ghost use Rattle.session.specs.Rooms.{Moves, enters as enters_by, leaves as leaves_by};
+ghost use Rattle.spatial_hash.specs.Table.{KeepsSize};
+ghost use Rattle.streamer.specs.Places.{IsPlaced, blocks_of};
+ghost use Rattle.fusion_core.specs.Maps.{touched};
+ghost use Rattle.session.specs.Rooms.{Moves};
 
-use crate::room::leaves;
-use block_places::Places;
-use fusion_core::Frame;
-use voxel_block::{Block, BlockKey};
+use streamer::Rest;
+use voxel_block::{BlockKey, Packed};
 
-/// Brings the blocks that are active for the frame into the heap, and all others to their slots. Takes no memory.
-///
-/// `keys` are all known keys, and there are `spares` for those that leave.
-pub fn move_blocks(places: &mut Places, frame: &Frame, keys: &[BlockKey], spares: &mut Vec<Block>)
-    requires placed { IsPlaced places.old }
-    requires keys { keys.now ≡ keys_of (blocks_of places.old) }
-    requires spares { length spares.old.items ≡ count_by (leaves_by frame.now places.old) keys.now }
-    requires room { active_count frame.now (blocks_of places.old) ≤ length places.old.heap.cells }
-    ensures moved { Moves places.old places.new }
-    ensures active { (b : Key) → contains_key (contents places.new.table) b ≡ (contains_key (blocks_of places.new) b && is_active frame.now b) }
+/// Packs resident blocks into the store, each into the memory of one of the packed forms. Takes no memory.
+pub fn leave_all(rest: &mut Rest, keys: &[BlockKey], packs: Vec<Packed>)
+    requires resident { (b : Key) → IsTrue (list_any (same_key b) keys.now) → IsTrue (contains_key (contents rest.old.table) b) }
+    requires opened { (b : Key) → IsTrue (list_any (same_key b) keys.now) → IsTrue (contains rest.old.store.opened (chunk_of b)) }
+    requires once { IsDistinct same_key keys.now }
+    requires packs { length packs.items ≡ length keys.now }
+    requires placed { IsPlaced rest.old }
+    ensures moved { Moves rest.old rest.new }
+    ensures left { (b : Key) → contains_key (contents rest.new.table) b ≡ (contains_key (contents rest.old.table) b && not (list_any (same_key b) keys.now)) }
+    ensures free { length rest.new.heap.free ≡ length rest.old.heap.free + length keys.now }
 {
-    leave_all(places, frame, keys, spares);
-    enter_all(places, frame, keys);
+    let mut packs = packs;
+    for key in keys {
+        leave_next(rest, *key, &mut packs);
+    }
 }
 
-/// Brings the blocks that are not active for the frame to their slots.
-fn leave_all(places: &mut Places, frame: &Frame, keys: &[BlockKey], spares: &mut Vec<Block>)
-    requires placed { IsPlaced places.old }
-    requires keys { keys.now ≡ keys_of (blocks_of places.old) }
-    requires spares { length spares.old.items ≡ count_by (leaves_by frame.now places.old) keys.now }
-    ensures moved { Moves places.old places.new }
-    ensures left { (b : Key) → IsTrue (contains_key (contents places.new.table) b) → IsTrue (is_active frame.now b) }
+/// Packs a resident block into the store.
+fn leave_next(rest: &mut Rest, key: BlockKey, packs: &mut Vec<Packed>)
+    requires resident { IsTrue (contains_key (contents rest.old.table) key) }
+    requires opened { IsTrue (contains rest.old.store.opened (chunk_of key)) }
+    requires packs { 0 < length packs.old.items }
+    ensures moved { Moves rest.old rest.new }
+    ensures left { contents rest.new.table ≡ remove (contents rest.old.table) key }
+    ensures free { length rest.new.heap.free ≡ length rest.old.heap.free + 1 }
+    ensures packs { length packs.new.items + 1 ≡ length packs.old.items }
+{
+    let Some(packed) = packs.pop() else {
+        unreachable!()
+    };
+    rest.leave(key, packed);
+}
+
+/// Unpacks stored blocks into the heap. Takes no memory.
+pub fn enter_all(rest: &mut Rest, keys: &[BlockKey])
+    requires known { (b : Key) → IsTrue (list_any (same_key b) keys.now) → IsTrue (contains_key (blocks_of rest.old) b) }
+    requires out { (b : Key) → IsTrue (list_any (same_key b) keys.now) → contains_key (contents rest.old.table) b ≡ false }
+    requires once { IsDistinct same_key keys.now }
+    requires free { length keys.now ≤ length rest.old.heap.free }
+    requires placed { IsPlaced rest.old }
+    ensures moved { Moves rest.old rest.new }
+    ensures entered { (b : Key) → contains_key (contents rest.new.table) b ≡ (contains_key (contents rest.old.table) b || list_any (same_key b) keys.now) }
+    ensures free { length rest.new.heap.free + length keys.now ≡ length rest.old.heap.free }
 {
     for key in keys {
-        leave_one(places, frame, *key, spares);
+        rest.enter(*key);
     }
 }
 
-/// Brings a block to its slot, where it is not active for the frame.
-fn leave_one(places: &mut Places, frame: &Frame, key: BlockKey, spares: &mut Vec<Block>)
-    requires { IsTrue (leaves_by frame.now places.old key) → 0 < length spares.old.items }
-    ensures moved { Moves places.old places.new }
-    ensures spares { length spares.new.items + (if leaves_by frame.now places.old key then 1 else 0) ≡ length spares.old.items }
-    ensures left { (b : Key) → contains_key (contents places.new.table) b ≡ (contains_key (contents places.old.table) b && not (same_key b key && not (is_active frame.now key))) }
-{
-    if leaves(places, frame, key) {
-        if let Some(spare) = spares.pop() {
-            places.leave(key, spare);
-        }
-    }
-}
-
-/// Brings the blocks that are active for the frame into the heap.
-fn enter_all(places: &mut Places, frame: &Frame, keys: &[BlockKey])
-    requires placed { IsPlaced places.old }
-    requires keys { keys.now ≡ keys_of (blocks_of places.old) }
-    requires left { (b : Key) → IsTrue (contains_key (contents places.old.table) b) → IsTrue (is_active frame.now b) }
-    requires room { active_count frame.now (blocks_of places.old) ≤ length places.old.heap.cells }
-    ensures moved { Moves places.old places.new }
-    ensures active { (b : Key) → contains_key (contents places.new.table) b ≡ (contains_key (blocks_of places.new) b && is_active frame.now b) }
+/// Makes keys known, with new blocks in the heap. Takes no memory.
+pub fn make_all(rest: &mut Rest, keys: &[BlockKey])
+    requires unknown { (b : Key) → IsTrue (list_any (same_key b) keys.now) → contains_key (blocks_of rest.old) b ≡ false }
+    requires once { IsDistinct same_key keys.now }
+    requires free { length keys.now ≤ length rest.old.heap.free }
+    requires placed { IsPlaced rest.old }
+    ensures blocks { blocks_of rest.new ≡ fold touched (blocks_of rest.old) keys.now }
+    ensures made { (b : Key) → contains_key (contents rest.new.table) b ≡ (contains_key (contents rest.old.table) b || list_any (same_key b) keys.now) }
+    ensures cells { length rest.new.heap.cells ≡ length rest.old.heap.cells }
+    ensures size { KeepsSize rest.old.table rest.new.table }
+    ensures placed { IsPlaced rest.new }
 {
     for key in keys {
-        enter_one(places, frame, *key);
+        rest.make_fresh(*key);
     }
-}
-
-/// Brings a block into the heap, where it is active for the frame and does not lie there.
-fn enter_one(places: &mut Places, frame: &Frame, key: BlockKey)
-    requires known { IsTrue (contains_key (blocks_of places.old) key) }
-    requires free { IsTrue (enters_by frame.now places.old key) → 0 < length places.old.heap.free }
-    ensures moved { Moves places.old places.new }
-    ensures entered { (b : Key) → contains_key (contents places.new.table) b ≡ (contains_key (contents places.old.table) b || (same_key b key && is_active frame.now key)) }
-{
-    if enters(places, frame, key) {
-        places.enter(key);
-    }
-}
-
-/// Whether the block of a key enters the heap: it does not lie there, and is active for the frame.
-fn enters(places: &Places, frame: &Frame, key: BlockKey) -> bool
-    ensures value { result ≡ enters_by frame.now places.now key }
-    ensures placed { IsPlaced places.now }
-{
-    !places.is_away(key) && frame.is_active(key)
 }

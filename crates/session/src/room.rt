@@ -1,161 +1,88 @@
-ghost use Rattle.std.specs.Prelude.{◌≡◌, ◌≤◌, ◌+◌, OnOk, OnErr, IfOk, fold, length};
-ghost use Rattle.std.specs.BTreeSet.{contains};
-ghost use Rattle.std.specs.FinMap.{contains_key, keys, len};
-ghost use Rattle.std.specs.List.{count_by};
-ghost use Rattle.voxel_block.specs.declared.key.BlockKey.{BlockKey as Key};
-ghost use Rattle.voxel_block.specs.Keys.{key_cmp};
-ghost use Rattle.band_walk.specs.Bands.{band};
-ghost use Rattle.block_places.specs.Places.{blocks_of, IsPlaced};
-ghost use Rattle.session.specs.Answers.{AnswersRoom, resident_of};
-ghost use Rattle.fusion_core.specs.Frames.{view};
-ghost use Rattle.fusion_core.specs.Maps.{active_count as active_count_of, need, touched};
-ghost use Rattle.session.specs.Rooms.{IsPlan, KeepsSlots, leaves as leaves_by};
+ghost use Rattle.std.specs.Prelude.{◌≡◌, ◌≤◌, ◌*◌, ◌+◌, IfOk, length};
+ghost use Rattle.std.specs.Int.{IsPowerOfTwo};
+ghost use Rattle.streamer.specs.Places.{blocks_of};
+ghost use Rattle.fusion_core.specs.Frames.{IsFrame};
+ghost use Rattle.fusion_core.specs.Maps.{need};
+ghost use Rattle.session.specs.Answers.{AnswersRoom, need_in, resident_of};
+ghost use Rattle.session.specs.Rooms.{IsFramePlan, IsReady, StaysPut};
 
-use crate::band::touch_band;
 use crate::error::FrameError;
-use block_places::Places;
+use crate::touching::{TouchError, touched_table};
 use fusion_core::Frame;
-use std::alloc::{AllocError, Global};
-use std::collections::BTreeSet;
-use voxel_block::{Block, BlockKey, NoMemory};
+use std::alloc::Global;
+use streamer::{Plan, PlanError, Rest, plan_frame};
+use voxel_block::{NoMemory, Packed};
 
-/// What a frame's moves and updates need. All memory is taken before the first of them.
+/// What a frame's moves need. All memory is taken before the first of them.
 #[derive(Drop)]
-pub struct Plan {
-    /// All keys of the map, in order.
-    pub keys: Vec<BlockKey>,
-    /// A block for each one that leaves the heap.
-    pub spares: Vec<Block>,
-    /// How many blocks are active for the frame.
-    pub resident: u32,
+pub struct Ready {
+    /// Which blocks move, and which stay.
+    pub plan: Plan,
+    /// The memory of a packed form for each block that leaves the heap.
+    pub packs: Vec<Packed>,
 }
 
-/// Touches the blocks of the frame's band, and makes ready what its moves and updates need.
+/// Plans a frame and takes the memory that its moves need. No block moves.
 ///
-/// Where more than `limit` blocks would be active, or it is out of memory, every block lies where it was, and there is no
-/// other.
+/// The table of touched keys has this number of buckets. Where more than `limit` blocks would be active the frame is
+/// refused.
 pub fn make_room(
     alloc: Global,
-    places: &mut Places,
+    rest: &mut Rest,
     frame: &Frame,
+    buckets: u32,
     limit: u32,
-) -> Result<Plan, FrameError>
-    requires limit { limit ≤ length places.old.heap.cells }
-    ensures room { AnswersRoom limit (need (blocks_of places.old) frame.now) (resident_of result) }
-    ensures touched { OnOk result (blocks_of places.new ≡ fold touched (blocks_of places.old) (band (view frame.now))) }
-    ensures plan { IfOk result (IsPlan frame.now places.new) }
-    ensures slots { OnOk result (KeepsSlots places.old places.new) }
-    ensures kept { OnErr result (places.new ≡ places.old) }
+) -> Result<Ready, FrameError>
+    requires frame { IsFrame frame.now }
+    requires power { IsPowerOfTwo buckets }
+    requires buckets { buckets ≤ 65536 }
+    requires most { limit ≤ 65536 }
+    requires limit { limit ≡ length rest.old.heap.cells }
+    ensures room { AnswersRoom limit (need (blocks_of rest.old) frame.now) (resident_of result) }
+    ensures ready { IfOk result (IsReady frame.now rest.new) }
+    ensures kept { StaysPut rest.old rest.new }
 {
-    let known = known_keys(alloc, places)?;
-    match plan_within(alloc, places, frame, limit) {
-        Ok(plan) => Ok(plan),
-        Err(why) => {
-            places.keep(&known);
-            Err(why)
-        }
-    }
+    let plan = plan_within(alloc, rest, frame, buckets, limit)?;
+    let packs = make_packs(alloc, plan.leave.len())?;
+    rest.reserve_out(alloc, &plan.leave)?;
+    Ok(Ready { plan, packs })
 }
 
-/// Touches them, and makes the plan. Whatever the answer, the blocks that were there lie where they were.
+/// Plans a frame.
 fn plan_within(
     alloc: Global,
-    places: &mut Places,
+    rest: &Rest,
     frame: &Frame,
+    buckets: u32,
     limit: u32,
 ) -> Result<Plan, FrameError>
-    requires limit { limit ≤ length places.old.heap.cells }
-    ensures room { AnswersRoom limit (need (blocks_of places.old) frame.now) (resident_of result) }
-    ensures touched { OnOk result (blocks_of places.new ≡ fold touched (blocks_of places.old) (band (view frame.now))) }
-    ensures plan { IfOk result (IsPlan frame.now places.new) }
-    ensures kept { KeepsSlots places.old places.new }
+    requires frame { IsFrame frame.now }
+    requires power { IsPowerOfTwo buckets }
+    requires buckets { buckets ≤ 65536 }
+    requires most { limit ≤ 65536 }
+    requires limit { limit ≡ length rest.now.heap.cells }
+    ensures room { AnswersRoom limit (need (blocks_of rest.now) frame.now) (need_in result) }
+    ensures plan { IfOk result (IsFramePlan frame.now rest.now) }
 {
-    touch_band(alloc, places, frame)?;
-    let resident = within_limit(active_count(places, frame), limit)?;
-    let keys = all_keys(alloc, places)?;
-    let spares = spares(alloc, places, frame)?;
-    Ok(Plan {
-        keys,
-        spares,
-        resident,
-    })
-}
-
-/// The known keys.
-fn known_keys(alloc: Global, places: &Places) -> Result<BTreeSet<BlockKey>, AllocError>
-    ensures known { IfOk result (λ ks. (b : Key) → contains key_cmp ks b ≡ contains_key (blocks_of places.now) b) }
-    ensures placed { IsPlaced places.now }
-{
-    let mut known = BTreeSet::new(alloc);
-    for key in places.keys() {
-        known.insert(*key)?;
+    let touched = match touched_table(alloc, rest.hash(), frame, buckets, limit) {
+        Ok(touched) => touched,
+        Err(TouchError::Full) => return Err(FrameError::HeapSpent { limit }),
+        Err(TouchError::NoMemory) => return Err(FrameError::NoMemory),
+    };
+    match plan_frame(alloc, rest, &touched, frame.camera(), &frame.pose()) {
+        Ok(plan) => Ok(plan),
+        Err(PlanError::HeapSpent { .. }) => Err(FrameError::HeapSpent { limit }),
+        Err(PlanError::NoMemory) => Err(FrameError::NoMemory),
     }
-    Ok(known)
 }
 
-/// How many blocks are active for the frame.
-fn active_count(places: &Places, frame: &Frame) -> u64
-    ensures { result ≡ active_count_of frame.now (blocks_of places.now) }
+/// The memory of so many packed forms.
+fn make_packs(alloc: Global, count: usize) -> Result<Vec<Packed>, NoMemory>
+    ensures { IfOk result (λ v. length v.items ≡ count) }
 {
-    let mut count = 0;
-    for key in places.keys() {
-        if frame.is_active(*key) {
-            count += 1;
-        }
+    let mut packs = Vec::with_capacity(alloc, count)?;
+    for _ in 0..count {
+        packs.push_reserved(Packed::make(alloc)?);
     }
-    count
-}
-
-/// A number of active blocks, which is refused where it is above the limit.
-fn within_limit(count: u64, limit: u32) -> Result<u32, FrameError>
-    ensures { AnswersRoom limit count result }
-{
-    if count > u64::from(limit) {
-        return Err(FrameError::HeapSpent { limit });
-    }
-    Ok(count as u32)
-}
-
-/// The known keys, in order.
-fn all_keys(alloc: Global, places: &Places) -> Result<Vec<BlockKey>, AllocError>
-    ensures all { IfOk result (λ v. v.items ≡ keys (blocks_of places.now)) }
-    ensures placed { IsPlaced places.now }
-{
-    let mut keys = Vec::new(alloc);
-    for key in places.keys() {
-        keys.push(*key)?;
-    }
-    Ok(keys)
-}
-
-/// A block for each one that leaves the heap.
-fn spares(alloc: Global, places: &Places, frame: &Frame) -> Result<Vec<Block>, NoMemory>
-    ensures { IfOk result (λ v. length v.items ≡ count_by (leaves_by frame.now places.now) (keys (blocks_of places.now))) }
-{
-    let mut spares = Vec::new(alloc);
-    for key in places.keys() {
-        if leaves(places, frame, *key) {
-            push_spare(alloc, &mut spares)?;
-        }
-    }
-    Ok(spares)
-}
-
-/// Appends a new block.
-fn push_spare(alloc: Global, spares: &mut Vec<Block>) -> Result<(), NoMemory>
-    ensures { OnOk result (length spares.new.items ≡ length spares.old.items + 1) }
-{
-    let spare = Block::make(alloc)?;
-    if spares.push(spare).is_err() {
-        return Err(NoMemory);
-    }
-    Ok(())
-}
-
-/// Whether the block of a key leaves the heap: it lies there, and is not active for the frame.
-pub fn leaves(places: &Places, frame: &Frame, key: BlockKey) -> bool
-    ensures value { result ≡ leaves_by frame.now places.now key }
-    ensures placed { IsPlaced places.now }
-{
-    places.is_away(key) && !frame.is_active(key)
+    Ok(packs)
 }

@@ -1,13 +1,15 @@
-ghost use Rattle.std.specs.Prelude.{◌≡◌, ◌<◌, ◌≤◌, ◌+◌, ◌^◌, fold, option_map};
-ghost use Rattle.block_places.specs.Places.{blocks_of};
+ghost use Rattle.std.specs.Prelude.{◌≡◌, ◌<◌, ◌≤◌, ◌+◌, ◌^◌, fold, IfOk};
+ghost use Rattle.std.specs.FinMap.{get};
+ghost use Rattle.streamer.specs.Places.{blocks_of};
 ghost use Rattle.scan_io.specs.Reading.{saturated as saturated_of};
 ghost use Rattle.session.specs.Fold.{known_in, known_voxels, totals_of, within_i64 as within_i64_of};
-ghost use Rattle.session.specs.Sums.{IsSum, known_in_option, nothing, added, added_if};
+ghost use Rattle.session.specs.Sums.{IsSum, known_among, known_in_option, nothing, added, added_if};
 
 use crate::known::known_at;
-use block_places::Places;
 use scan_lang::{KnownVoxel, Totals};
-use voxel_block::{Block, BlockKey};
+use std::alloc::Global;
+use streamer::Rest;
+use voxel_block::{Block, BlockKey, NoMemory};
 
 /// Sums over known voxels: their number, their weights and their distances.
 #[derive(Clone, Copy)]
@@ -18,44 +20,61 @@ pub struct Sums {
 }
 
 /// Totals over a map.
-pub fn totals(places: &Places) -> Totals
-    ensures { result ≡ totals_of (blocks_of places.now) }
+pub fn totals(alloc: Global, rest: &Rest) -> Result<Totals, NoMemory>
+    ensures { IfOk result (λ t. t ≡ totals_of (blocks_of rest.now)) }
 {
-    let sums = sums_over(places);
-    Totals {
-        blocks: places.len() as u64,
+    let sums = sums_over(alloc, rest)?;
+    Ok(Totals {
+        blocks: rest.len(),
         known: saturated(sums.known),
         weight: saturated(sums.weight),
         distance: within_i64(sums.distance),
-    }
+    })
 }
 
 /// The sums over all known voxels of a map.
-fn sums_over(places: &Places) -> Sums
-    ensures { result ≡ fold added nothing (known_voxels (blocks_of places.now)) }
+///
+/// A stored block is unpacked into a block that is made before the walk.
+fn sums_over(alloc: Global, rest: &Rest) -> Result<Sums, NoMemory>
+    ensures { IfOk result (λ s. s ≡ fold added nothing (known_voxels (blocks_of rest.now))) }
+{
+    let keys = rest.keys(alloc)?;
+    let mut scratch = Block::make(alloc)?;
+    Ok(sums_at_keys(rest, &keys, &mut scratch))
+}
+
+/// The sums over the known voxels of the blocks of these keys.
+fn sums_at_keys(rest: &Rest, keys: &[BlockKey], scratch: &mut Block) -> Sums
+    ensures { result ≡ fold added nothing (known_among (blocks_of rest.now) keys.now) }
 {
     let mut sums = Sums {
         known: 0,
         weight: 0,
         distance: 0,
     };
-    for key in places.keys() {
-        sums = with_found(sums, *key, places.lend(*key));
+    for key in keys {
+        sums = with_known(sums, rest, *key, scratch);
     }
     sums
 }
 
-/// The sums with the known voxels of a block, if there is one.
-fn with_found(sums: Sums, key: BlockKey, block: Option<&Block>) -> Sums
+/// The sums with the known voxels of a key's block, wherever it lies.
+fn with_known(sums: Sums, rest: &Rest, key: BlockKey, scratch: &mut Block) -> Sums
     requires sum { IsSum sums }
     requires few { sums.known < 2 ^ 79 }
-    ensures value { result ≡ fold added sums (known_in_option key (option_map (λ b. b.now) block.entry)) }
+    ensures value { result ≡ fold added sums (known_in_option key (get (blocks_of rest.now) key)) }
     ensures sum { IsSum result }
     ensures few { result.known ≤ sums.known + 512 }
 {
-    match block {
+    match rest.lend(key) {
         Some(block) => with_block(sums, key, block),
-        None => sums,
+        None => {
+            if rest.unpack(key, scratch) {
+                with_block(sums, key, scratch)
+            } else {
+                sums
+            }
+        }
     }
 }
 

@@ -1,50 +1,41 @@
-ghost use Rattle.std.specs.Prelude.{◌≡◌, IsTrue, if◌then◌else◌};
-ghost use Rattle.std.specs.FinMap.{contains_key, insert, keys as keys_of};
+ghost use Rattle.std.specs.Prelude.{◌≡◌, IsTrue};
+ghost use Rattle.std.specs.FinMap.{contains_key, insert};
+ghost use Rattle.std.specs.List.{IsDistinct, list_any};
+ghost use Rattle.voxel_block.specs.declared.key.BlockKey.{BlockKey as Key};
+ghost use Rattle.voxel_block.specs.Keys.{same_key};
 ghost use Rattle.fuse_kernel.specs.Updates.{updated};
-ghost use Rattle.block_places.specs.Places.{IsPlaced, blocks_of};
-ghost use Rattle.fusion_core.specs.Frames.{IsFrame, is_active, view};
-ghost use Rattle.fusion_core.specs.Maps.{HasWholeBlocks, all_updated, voxels_at};
+ghost use Rattle.spatial_hash.specs.Contents.{contents};
+ghost use Rattle.streamer.specs.Places.{IsPlaced, blocks_of};
+ghost use Rattle.fusion_core.specs.Frames.{view};
+ghost use Rattle.fusion_core.specs.Maps.{voxels_at};
 ghost use Rattle.session.specs.Rooms.{StaysInPlace};
+ghost use Rattle.session.specs.Updating.{UpdatesEach};
 
-use block_places::Places;
 use fusion_core::Frame;
+use streamer::Rest;
 use voxel_block::BlockKey;
 
-/// Updates every voxel of every block where it lies. `keys` are all known keys.
-///
-/// The update leaves a block as it is that is not active for the frame, so only those that are active are lent.
-pub fn update_all(places: &mut Places, frame: &Frame, keys: &[BlockKey])
-    requires placed { IsPlaced places.old }
-    requires whole { HasWholeBlocks (blocks_of places.old) }
-    requires keys { keys.now ≡ keys_of (blocks_of places.old) }
-    ensures updated { blocks_of places.new ≡ all_updated frame.now (blocks_of places.old) }
-    ensures stays { StaysInPlace places.old places.new }
+/// Updates every voxel of the blocks of these keys, which lie in the heap.
+pub fn update_each(rest: &mut Rest, frame: &Frame, keys: &[BlockKey])
+    requires resident { (b : Key) → IsTrue (list_any (same_key b) keys.now) → IsTrue (contains_key (contents rest.old.table) b) }
+    requires once { IsDistinct same_key keys.now }
+    requires placed { IsPlaced rest.old }
+    ensures updated { UpdatesEach frame.now keys.now (blocks_of rest.old) (blocks_of rest.new) }
+    ensures stays { StaysInPlace rest.old rest.new }
 {
     for key in keys {
-        update_active(places, frame, *key);
+        update_one(rest, frame, *key);
     }
 }
 
-/// Updates every voxel of a block where it lies, if the block is active for the frame.
-fn update_active(places: &mut Places, frame: &Frame, key: BlockKey)
-    requires known { IsTrue (contains_key (blocks_of places.old) key) }
-    requires placed { IsPlaced places.old }
-    ensures updated { blocks_of places.new ≡ (if is_active frame.now key then insert (blocks_of places.old) key (updated (view frame.now) frame.now.max_weight key (voxels_at (blocks_of places.old) key)) else blocks_of places.old) }
-    ensures stays { StaysInPlace places.old places.new }
-    ensures frame { IsFrame frame.now }
+/// Updates every voxel of a block in the heap.
+fn update_one(rest: &mut Rest, frame: &Frame, key: BlockKey)
+    requires resident { IsTrue (contains_key (contents rest.old.table) key) }
+    requires placed { IsPlaced rest.old }
+    ensures updated { blocks_of rest.new ≡ insert (blocks_of rest.old) key (updated (view frame.now) frame.now.max_weight key (voxels_at (blocks_of rest.old) key)) }
+    ensures stays { StaysInPlace rest.old rest.new }
 {
-    if frame.is_active(key) {
-        update_one(places, frame, key);
-    }
-}
-
-/// Updates every voxel of a block where it lies.
-fn update_one(places: &mut Places, frame: &Frame, key: BlockKey)
-    requires known { IsTrue (contains_key (blocks_of places.old) key) }
-    ensures updated { blocks_of places.new ≡ insert (blocks_of places.old) key (updated (view frame.now) frame.now.max_weight key (voxels_at (blocks_of places.old) key)) }
-    ensures stays { StaysInPlace places.old places.new }
-{
-    if let Some(block) = places.lend_mut(key) {
+    if let Some(block) = rest.lend_mut(key) {
         frame.update(block, key);
     }
 }

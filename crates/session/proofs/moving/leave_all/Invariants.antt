@@ -3,4 +3,4 @@ use Rattle.session.proofs.MovingLemmas.{Leaving}
 use Rattle.session.proofs.moving.leave_all.Given as goal
 
 abbrev pub invariant-loop-key : goal.invariant-loop-key
-invariant-loop-key l = Leaving l.frame l.fn.places l.places (drop l.key-index l.keys) (length l.spares.items)
+invariant-loop-key l = Leaving l.fn.rest l.rest l.keys (drop l.key-index l.keys) (length l.packs.items)

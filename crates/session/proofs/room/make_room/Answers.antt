@@ -1,11 +1,10 @@
-use Rattle.std.proofs.Common.{◌∙◌}
-use Rattle.std.specs.BTreeSet.{contains}
-use Rattle.voxel_block.specs.Keys.{key_cmp}
-use Rattle.session.proofs.KeepLemmas.{put_back, away_known}
+use Rattle.std.proofs.Common.{ap, ◌∙◌}
+use Rattle.chunk_store.specs.Store.{opened_with}
+use Rattle.session.proofs.RoomLemmas.{ready}
 use Rattle.session.proofs.room.make_room.Goals as goal
 
-pub keep-requires : goal.keep-requires
-keep-requires c = record { away = away_known c.args.places.now c.plan_within.new.places (contains key_cmp c.in_ok-known.known) c.known_keys.ensures.placed c.in_ok-known.ensures.known c.in-Err.ensures.kept }
-
-pub returns-clause-kept : goal.returns-clause-kept
-returns-clause-kept c = c.keep.ensures.value ∙ put_back c.args.places.now c.plan_within.new.places (contains key_cmp c.in_ok-known.known) c.in_ok-known.ensures.known c.in-Err.ensures.kept
+pub returns-clause-ready : goal.returns-clause-ready
+returns-clause-ready c =
+    ready c.args.frame.now c.args.rest.now c.reserve_out.new.self (record { plan = c.in_ok-plan.plan; packs = c.in_ok-packs.packs })
+    (record { table = c.in_ok-reserve_out.ensures.table; heap = c.in_ok-reserve_out.ensures.heap; contents = c.in_ok-reserve_out.ensures.contents })
+    c.in_ok-plan.ensures.plan (c.in_ok-packs.ensures ∙ c.len.ensures ∙ c.in_ok-plan.plan.leave.ok.0) (c.in_ok-reserve_out.ensures.ok ∙ ap (opened_with c.args.rest.now.store.opened) c.deref.ensures.value)

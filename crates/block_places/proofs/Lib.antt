@@ -1,9 +1,0 @@
-pub mod Blocks
-pub mod Keeping
-pub mod Keyed
-pub mod Moves
-pub mod NewPlaces
-pub mod Owning
-pub mod Rewriting
-pub mod Trees
-pub mod Ways

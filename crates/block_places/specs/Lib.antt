@@ -1,5 +1,0 @@
-pub mod Codes
-pub mod Lending
-pub mod Owners
-pub mod Places
-pub mod Seen

@@ -1,6 +1,0 @@
-use Rattle.std.proofs.Common.{drop}
-use Rattle.session.proofs.UpdatingLemmas.{Updating}
-use Rattle.session.proofs.updating.update_all.Given as goal
-
-abbrev pub invariant-loop-key : goal.invariant-loop-key
-invariant-loop-key l = Updating l.frame l.fn.places l.places (drop l.key-index l.keys)
