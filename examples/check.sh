@@ -89,7 +89,7 @@ for scan in "$here"/*.scan; do
   cp "${scan%.scan}.out" "$t/want"
   run "the example $(basename "$scan")" 0 '' fuse <"$scan"
 done
-for name in typed wall turned; do
+for name in typed wall turned place; do
   python3 "$here/expected.py" <"$here/$name.scan" | cmp -s - "$here/$name.out"
   verdict "expected.py computes $name.out" $?
 done

@@ -111,6 +111,19 @@ def frame(r, k):
     return line.encode() + depth_map(r, k)
 
 
+def place(r, k):
+    """A question for the place of a block, mostly of one that a frame at the origin can see."""
+    side = 8 * k["voxel"]
+    words = [str(r.randint(-2, 1)), str(r.randint(-2, 1)), str(r.randint(k["near"] // side, (k["far"] + k["mu"]) // side))]
+    if r.random() < 0.1:
+        words[r.randrange(3)] = r.choice(["-0", "00012", "-32768", "32767"])
+    if r.random() < 0.02:
+        words[r.randrange(3)] = r.choice(["32768", "-32769", "99999", "+1", "000001", "-", "--1", "1.0", "1e0", "x"])
+    if r.random() < 0.02:
+        words = words[:-1] if r.random() < 0.5 else words + ["0"]
+    return ("place " + r.choice([" ", "  ", "\t"]).join(words) + r.choice(["", " ", "\r"]) + "\n").encode()
+
+
 def gap(r):
     return b"".join(r.choice([b" ", b"\n", b"\t", b"\r", b"\x0b", b"\x0c", b"# a comment\n", b"#\r"]) for _ in range(r.randint(1, 3))) \
         if r.random() < 0.3 else r.choice([b" ", b"\n"])
@@ -146,12 +159,12 @@ def some_scan(r):
     line = broken_config(r, k) if r.random() < 0.12 else make_config.line(k)
     records = []
     for _ in range(r.choice([0, 1, 2, 3, 3, 4])):
-        records += [frame(r, k)] + r.choice([[], [b"sum\n"], [b"\n", b" \t\r\n"]])
+        records += [frame(r, k)] + r.choice([[], [b"sum\n"], [b"\n", b" \t\r\n"], [place(r, k), place(r, k)]])
     records += r.choice([[b"voxels\n"], [b"sum\n"], []])
     for _ in range(2):
         if r.random() < 0.04:
             records.insert(r.randint(0, len(records)), r.choice([
-                b"Sum\n", b"sum 1\n", b"end 1\n", b"frame\n", b"fram\n", b"\x00\n", b"\xff\n", b" voxels \r\n", b"x" * 1024 + b"\n",
+                b"Sum\n", b"sum 1\n", b"place\n", b"end 1\n", b"frame\n", b"fram\n", b"\x00\n", b"\xff\n", b" voxels \r\n", b"x" * 1024 + b"\n",
                 b" " * 1025 + b"\n", b" " * 1024 + b"\n", b"x" * 2000, b"end\n", b"\x0csum\n"]))
     text = line.encode() + b"\n" + b"".join(records)
     text += b"end\n" if r.random() < 0.9 else b"end"
@@ -195,6 +208,8 @@ def main():
         for line in wanted[0].decode().split("\n"):
             if line.startswith("frame"):
                 kinds["frames refused" if "refused" in line else "frames fused"] += 1
+            elif line.startswith("place"):
+                kinds["answers '%s'" % line] += 1
             elif re.match("-?[0-9]", line):
                 kinds["voxels listed"] += 1
         if answer([a.program, "fuse"], text) != wanted:

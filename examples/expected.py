@@ -103,6 +103,7 @@ def frame_reply(config, state, rows, sides, raw):
     for key in keys:
         update(config, rows, raw, key, state["blocks"].setdefault(key, [(32767, 0)] * 512))
     state["frames"] += 1
+    state["last"] = rows
     return "frame %d blocks %d resident %d" % (state["frames"], len(keys), active)
 
 
@@ -194,6 +195,13 @@ def line_at(text, at, limit):
     return text[at:end]
 
 
+def place(config, state, key):
+    """Where the block of a key lies: in the heap where it is active for the last frame that was accepted."""
+    if key not in state["blocks"]:
+        return "none"
+    return "heap" if is_active(config, state["last"], key) else "store"
+
+
 def known_lines(blocks):
     return ["%d %d %d %d %d" % (8 * b[0] + i % 8, 8 * b[1] + i // 8 % 8, 8 * b[2] + i // 64, f, w)
             for b in sorted(blocks) for i, (f, w) in enumerate(blocks[b]) if w > 0]
@@ -227,6 +235,11 @@ def answer(config, state, text, out):
             known = [(f, w) for voxels in blocks.values() for f, w in voxels if w > 0]
             out.append("sum blocks %d known %d weight %d distance %d"
                        % (len(blocks), len(known), sum(w for _, w in known), sum(f for f, _ in known)))
+        elif word == b"place" and len(words) == 4:
+            for w in words[1:]:
+                if not re.fullmatch(rb"-?[0-9]{1,5}", w[0]) or not -2 ** 15 <= int(w[0]) < 2 ** 15:
+                    raise Refused(start + w.start(), "number")
+            out.append("place " + place(config, state, tuple(int(w[0]) for w in words[1:])))
         elif word == b"end" and len(words) == 1:
             out.append("end")
             return

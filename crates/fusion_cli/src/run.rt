@@ -149,6 +149,7 @@ fn act(alloc: Global, session: &mut Session, entry: Entry) -> Result<Reply, Stop
             Ok(Reply::Voxels(blocks, VoxelList::make(known)))
         }
         Entry::Sum => Ok(Reply::Totals(session.totals()?)),
+        Entry::Place(key) => Ok(Reply::Place(session.place_of(key))),
         Entry::End => Ok(Reply::End),
     }
 }

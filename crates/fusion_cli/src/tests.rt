@@ -78,7 +78,7 @@ fn refused(at: u64, what: BadWhat) -> Status {
 #[test]
 fn scans_are_answered(rt: HostRuntime) -> Result<(), Fail> {
     let alloc = rt.alloc();
-    let table: [(&str, &str, &str, &[Shot], &str, &str, Status); 24] = [
+    let table: [(&str, &str, &str, &[Shot], &str, &str, Status); 25] = [
         (
             "a scan without records",
             "",
@@ -174,6 +174,15 @@ fn scans_are_answered(rt: HostRuntime) -> Result<(), Fail> {
             &[WALL, FAR_WALL, WALL],
             "sum\nend\n",
             "frame 1 blocks 2 resident 2\nframe 2 blocks 4 resident 2\nframe 3 blocks 4 resident 2\nsum blocks 4 known 1152 weight 1728 distance -384\nend\n",
+            Status::Done,
+        ),
+        (
+            "the place of a block that leaves the heap and comes back",
+            "\"unit\":1000",
+            "\"unit\":10000",
+            &[],
+            "frame 1 0 0 0 0 1 0 0 0 0 1 0\nP5 1 1 255\ndplace 0 0 12\nplace 1 0 12\nframe 1 0 0 50 0 1 0 0 0 0 1 0\nP5 1 1 255\ndplace 0 0 12\nframe 1 0 0 0 0 1 0 0 0 0 1 0\nP5 1 1 255\ndplace 0 0 12\nend\n",
+            "frame 1 blocks 2 resident 2\nplace heap\nplace none\nframe 2 blocks 4 resident 2\nplace store\nframe 3 blocks 4 resident 2\nplace heap\nend\n",
             Status::Done,
         ),
         // A mirrored camera that looks back.

@@ -1,6 +1,6 @@
 -- What the reading of a text as a scan says of every longer text.
 use Rattle.std.proofs.Common.{◌≡◌, ◌≢◌, ℕ, zero, suc, ◌+◌, ◌-◌, ◌<◌, ◌≤◌, List, [], ◌∷◌, ◌++◌, length, length-append, Bool, true, false, cond, eqb, leb, Option, None, Some, Result, Ok, Err, refl, sym, ap, ◌∙◌, arith}
-use Rattle.std.specs.Prelude.{⊤, codes, bytes_eq}
+use Rattle.std.specs.Prelude.{ℤ, ⊤, codes, bytes_eq, ok_or}
 use Rattle.std.specs.List.{slice_split, onto_first}
 use Rattle.std.proofs.lemmas.Bool.Decides.{nat_tests}
 use Rattle.std.proofs.lemmas.List.{append-nil}
@@ -16,14 +16,15 @@ use Rattle.scan_io.proofs.Fronts.{Front, whole, bad, cut, Given, given_ok, given
 use Rattle.scan_lang.specs.declared.error.BadScan.{BadScan}
 use Rattle.scan_lang.specs.declared.error.BadWhat.TheVariants as what
 use Rattle.scan_lang.specs.declared.entry.Entry.{Entry}
-use Rattle.scan_lang.specs.declared.entry.Entry.TheVariants.{Frame}
+use Rattle.scan_lang.specs.declared.entry.Entry.TheVariants.{Frame, Place}
 use Rattle.scan_lang.specs.declared.head.Head.{Head}
 use Rattle.scan_lang.specs.declared.head.Head.TheVariants as heads
 use Rattle.scan_lang.specs.Config.{Config, config_of}
 use Rattle.scan_lang.specs.Entries.{is_end}
 use Rattle.scan_lang.specs.Offsets.{offset_after, fault, short, pgm_what, bad_pgm}
+use Rattle.scan_lang.specs.Coordinates.{coordinate_of}
 use Rattle.scan_lang.specs.Lines.{config_line_limit, line_limit, long, first_line}
-use Rattle.scan_lang.specs.Words.{is_blank, Word, words_in, words_of, number_at, numbers_from, frame_head, one_word, alone, head_with, head_in, head_of, rows_in}
+use Rattle.scan_lang.specs.Words.{is_blank, Word, words_in, words_of, number_at, numbers_from, frame_head, coordinate_at, place_head, one_word, alone, head_with, head_in, head_of, rows_in}
 use Rattle.scan_lang.specs.Scan.{Begun, Read, Records, Ending, complete, refused, config_at_start, begin_of, entry_with, no_line, nothing_but, with_entry, records_with, records_from, records_after, records_of, lines_after_config, scan_from, scan_of}
 use Rattle.scan_lang.specs.Laws.{records_in, ShortIsAtEnd, OthersAreInside, OthersStay, CompleteStays, EntriesStay}
 use Rattle.scan_lang.proofs.LineLemmas.{IsPlain, plain_none, plain_more, line_further, line_next, line_split, line_end, line_long}
@@ -144,8 +145,28 @@ frame_inside : (offset end last : ℕ) (ws : List Word) → offset < end → off
 frame_inside offset end last ws low fits all =
     given_if (eqb (length ws) 12) (λ twelve. inside_then end (numbers_from offset 0 ws) (λ ns. Ok (heads.Frame (rows_in ns))) (numbers_inside offset end last 0 ws fits all) (λ ns. given_ok (heads.Frame (rows_in ns)) tt)) (λ other. no_record_inside offset end low)
 
+coordinate_inside : (offset end : ℕ) (w : Word) → offset + w.at < end → RefusedInside end (coordinate_at offset w)
+coordinate_inside offset end w low = on (coordinate_of w.bytes)
+  where
+    on : (o : Option ℤ) → RefusedInside end (ok_or o (fault what.Number (offset_after offset w.at)))
+    on (Some z) = given_ok z tt
+    on None = given_err (fault what.Number (offset_after offset w.at)) ((λ is. absurd cc), omega arith)
+
+place_inside : (offset end last : ℕ) (ws : List Word) → offset < end → offset + last ≤ end → AllBefore last ws → RefusedInside end (place_head offset ws)
+unfolding AllBefore
+place_inside offset end last [] low fits all = no_record_inside offset end low
+place_inside offset end last (x ∷ []) low fits all = no_record_inside offset end low
+place_inside offset end last (x ∷ y ∷ []) low fits all = no_record_inside offset end low
+place_inside offset end last (x ∷ y ∷ z ∷ []) low fits all =
+    inside_then end (coordinate_at offset x) _ (coordinate_inside offset end x (omega (arith, all.0))) (λ i.
+    inside_then end (coordinate_at offset y) _ (coordinate_inside offset end y (omega (arith, all.1.0))) (λ j.
+    inside_then end (coordinate_at offset z) _ (coordinate_inside offset end z (omega (arith, all.1.1.0))) (λ k.
+    given_ok (heads.Whole (Place (record { x = i; y = j; z = k }))) tt)))
+place_inside offset end last (x ∷ y ∷ z ∷ w ∷ ws) low fits all = no_record_inside offset end low
+
 with_inside : (offset end last : ℕ) (word : List ℕ) (ws : List Word) → offset < end → offset + last ≤ end → AllBefore last ws → RefusedInside end (head_with offset word ws)
-with_inside offset end last word ws low fits all = given_if (bytes_eq word (codes "frame")) (λ frame. frame_inside offset end last ws low fits all) (λ other. alone_inside offset end (one_word word) ws low)
+with_inside offset end last word ws low fits all = given_if (bytes_eq word (codes "frame")) (λ frame. frame_inside offset end last ws low fits all) (λ other.
+    given_if (bytes_eq word (codes "place")) (λ place. place_inside offset end last ws low fits all) (λ other. alone_inside offset end (one_word word) ws low))
 
 in_inside : (offset end last : ℕ) (ws : List Word) → offset < end → offset + last ≤ end → AllBefore last ws → RefusedInside end (head_in offset ws)
 unfolding AllBefore

@@ -1,6 +1,7 @@
 mod ConfigLemmas
 mod FrontLemmas
 mod LineLemmas
+mod NumberLemmas
 mod ReaderLemmas
 pub mod RecordLemmas
 mod WordLemmas

@@ -1,4 +1,5 @@
 pub mod Config
+pub mod Coordinates
 pub mod Entries
 pub mod Laws
 pub mod Lines

@@ -4,6 +4,8 @@ use Rattle.std.specs.List.{flat_map}
 use Rattle.std.specs.Fmt.{decimal, signed_decimal}
 use Rattle.scan_lang.specs.declared.reply.FrameDone.{FrameDone}
 use Rattle.scan_lang.specs.declared.reply.KnownVoxel.{KnownVoxel}
+use Rattle.scan_lang.specs.declared.reply.Place.{Place}
+use Rattle.scan_lang.specs.declared.reply.Place.TheVariants.{Heap, Store, Nowhere}
 use Rattle.scan_lang.specs.declared.reply.Totals.{Totals}
 use Rattle.scan_lang.specs.declared.reply.Reply.{Reply}
 use Rattle.scan_lang.specs.declared.reply.Reply.TheVariants as replies
@@ -39,6 +41,12 @@ sums_text w d = codes "weight " ++ decimal w ++ codes " distance " ++ signed_dec
 abbrev pub totals_text : Totals → List ℕ
 totals_text t = (codes "sum " ++ counts_text t.blocks t.known) ++ sums_text t.weight t.distance
 
+-- where a block lies
+abbrev pub place_text : Place → List ℕ
+place_text Heap = codes "place heap\n"
+place_text Store = codes "place store\n"
+place_text Nowhere = codes "place none\n"
+
 -- the bytes of a reply
 abbrev pub text_of : Reply → List ℕ
 text_of (replies.Frame done) = frame_text done
@@ -48,4 +56,5 @@ text_of replies.PoseRotation = codes "frame refused pose rotation\n"
 text_of (replies.HeapSpent limit) = heap_text limit
 text_of (replies.Voxels blocks known) = voxels_text blocks known
 text_of (replies.Totals totals) = totals_text totals
+text_of (replies.Place place) = place_text place
 text_of replies.End = codes "end\n"

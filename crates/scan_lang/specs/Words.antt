@@ -1,5 +1,5 @@
 -- The words of a line, and the record that they begin.
-use Rattle.std.specs.Prelude.{ℕ, ◌+◌, ◌%◌, ◌==◌, ◌||◌, ◌^◌, ℤ, pos, if◌then◌else◌, Bool, List, [], ◌∷◌, length, codes, slice_index_or, Option, None, Some, Result, Ok, Err}
+use Rattle.std.specs.Prelude.{ℕ, ◌+◌, ◌%◌, ◌==◌, ◌||◌, ◌^◌, ℤ, pos, if◌then◌else◌, Bool, List, [], ◌∷◌, length, codes, slice_index_or, Option, None, Some, Result, Ok, Err, ok_or}
 use Rattle.std.specs.List.{slice_split}
 use Rattle.std.specs.Str.{bytes_eq}
 use Rattle.fixed_geom.specs.Vectors.{vec}
@@ -10,9 +10,10 @@ use Rattle.scan_io.specs.Steps.{◌>>=◌}
 use Rattle.scan_lang.specs.declared.error.BadScan.{BadScan}
 use Rattle.scan_lang.specs.declared.error.BadWhat.TheVariants.{Line, Number}
 use Rattle.scan_lang.specs.declared.entry.Entry.{Entry}
-use Rattle.scan_lang.specs.declared.entry.Entry.TheVariants.{Voxels, Sum, End}
+use Rattle.scan_lang.specs.declared.entry.Entry.TheVariants.{Voxels, Sum, Place, End}
 use Rattle.scan_lang.specs.declared.head.Head.{Head}
 use Rattle.scan_lang.specs.declared.head.Head.TheVariants.{Frame, Whole}
+use Rattle.scan_lang.specs.Coordinates.{coordinate_of}
 use Rattle.scan_lang.specs.Offsets.{offset_after, fault}
 
 -- ---- words
@@ -70,6 +71,23 @@ no_record offset = Err (fault Line offset)
 abbrev pub frame_head : (offset : ℕ) → List Word → Result Head BadScan
 frame_head offset ws = if length ws == 12 then (numbers_from offset 0 ws >>= λ ns. Ok (Frame (rows_in ns))) else no_record offset
 
+-- a coordinate of a block, which a word writes in a line at an offset
+abbrev pub coordinate_at : (offset : ℕ) → Word → Result ℤ BadScan
+coordinate_at offset w = ok_or (coordinate_of w.bytes) (fault Number (offset_after offset w.at))
+
+-- a block whose place is asked for, by the words of its coordinates
+abbrev pub place_with : (offset : ℕ) → (x y z : Word) → Result Head BadScan
+place_with offset x y z = do
+  i ← coordinate_at offset x
+  j ← coordinate_at offset y
+  k ← coordinate_at offset z
+  Ok (Whole (Place (record { x = i; y = j; z = k })))
+
+-- it has three coordinates
+abbrev pub place_head : (offset : ℕ) → List Word → Result Head BadScan
+place_head offset (x ∷ y ∷ z ∷ []) = place_with offset x y z
+place_head offset ws = no_record offset
+
 -- the record that is one word
 abbrev pub one_word : (word : List ℕ) → Option Entry
 one_word word =
@@ -85,7 +103,10 @@ alone offset (Some entry) ws = if length ws == 0 then Ok (Whole entry) else no_r
 
 -- by the first word, and those after it
 abbrev pub head_with : (offset : ℕ) → (word : List ℕ) → List Word → Result Head BadScan
-head_with offset word ws = if bytes_eq word (codes "frame") then frame_head offset ws else alone offset (one_word word) ws
+head_with offset word ws =
+    if bytes_eq word (codes "frame") then frame_head offset ws
+    else if bytes_eq word (codes "place") then place_head offset ws
+    else alone offset (one_word word) ws
 
 abbrev pub head_in : (offset : ℕ) → List Word → Result (Option Head) BadScan
 head_in offset [] = Ok None

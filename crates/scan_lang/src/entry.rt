@@ -2,6 +2,7 @@ ghost use Rattle.std.specs.Prelude.{◌≡◌};
 
 use depth_frame::DepthFrame;
 use fixed_geom::PoseRows;
+use voxel_block::BlockKey;
 
 /// A record of a scan.
 #[derive(Drop)]
@@ -12,6 +13,8 @@ pub enum Entry {
     Voxels,
     /// A request for totals over the map.
     Sum,
+    /// A request for the place of a block.
+    Place(BlockKey),
     /// The end of the scan.
     End,
 }

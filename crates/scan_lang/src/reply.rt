@@ -1,6 +1,6 @@
 ghost use Rattle.std.specs.Prelude.{◌≡◌, ◌++◌, ◌∷◌, [], IfOk, OnOk};
 ghost use Rattle.std.specs.Fmt.{signed_decimal};
-ghost use Rattle.scan_lang.specs.Replies.{text_of, frame_text, heap_text, counts_text, sums_text, totals_text, voxels_text, voxels_head as voxels_head_of, voxel_line};
+ghost use Rattle.scan_lang.specs.Replies.{text_of, frame_text, heap_text, place_text, counts_text, sums_text, totals_text, voxels_text, voxels_head as voxels_head_of, voxel_line};
 
 use itoa::Buffer;
 use std::alloc::{AllocError, Global};
@@ -40,6 +40,17 @@ pub struct Totals {
     pub weight: u64,
     /// The sum of the known voxels' distances.
     pub distance: i64,
+}
+
+/// Where the block of a key lies.
+#[derive(Clone, Copy, Debug, PartialEq, Eq)]
+pub enum Place {
+    /// In the heap: it is active for the last frame.
+    Heap,
+    /// In the store: the map has it, and it is not active for the last frame.
+    Store,
+    /// The map has no block of the key.
+    Nowhere,
 }
 
 /// A list of voxels.
@@ -90,6 +101,8 @@ pub enum Reply {
     Voxels(u64, VoxelList),
     /// Totals over the map.
     Totals(Totals),
+    /// The place of a block.
+    Place(Place),
     /// The scan ended.
     End,
 }
@@ -115,6 +128,7 @@ fn written(alloc: Global, reply: &Reply) -> Result<Vec<u8>, AllocError>
         Reply::HeapSpent(limit) => heap_bytes(alloc, *limit),
         Reply::Voxels(blocks, known) => voxels_bytes(alloc, *blocks, known.items()),
         Reply::Totals(totals) => totals_bytes(alloc, totals),
+        Reply::Place(place) => place_bytes(alloc, *place),
         Reply::End => b"end\n".to_vec(alloc),
     }
 }
@@ -141,6 +155,16 @@ fn totals_bytes(alloc: Global, totals: &Totals) -> Result<Vec<u8>, AllocError>
     bytes.extend_from_slice(&counts_bytes(alloc, totals.blocks, totals.known)?)?;
     bytes.extend_from_slice(&sums_bytes(alloc, totals.weight, totals.distance)?)?;
     Ok(bytes)
+}
+
+fn place_bytes(alloc: Global, place: Place) -> Result<Vec<u8>, AllocError>
+    ensures { IfOk result (λ v. v.items ≡ place_text place) }
+{
+    match place {
+        Place::Heap => b"place heap\n".to_vec(alloc),
+        Place::Store => b"place store\n".to_vec(alloc),
+        Place::Nowhere => b"place none\n".to_vec(alloc),
+    }
 }
 
 fn counts_bytes(alloc: Global, blocks: u64, known: u64) -> Result<Vec<u8>, AllocError>

@@ -7,6 +7,7 @@ use fixed_geom::Vec3;
 use scan_io::MemSource;
 use std::alloc::Global;
 use std::test::Fail;
+use voxel_block::BlockKey;
 
 const BASE: &str =
     "{\"version\":1,\"width\":1,\"height\":1,\"fx\":65536,\"fy\":65536,\"cx\":0,\"cy\":0,\"unit\":1000,\"near\":500000,\"far\":2000000,\"voxel\":10000,\"mu\":40000,\"max_weight\":255,\"radius\":2100000,\"centre\":1020000,\"heap_blocks\":64,\"buckets\":16,\"empty_f\":30000}";
@@ -20,6 +21,7 @@ enum Seen {
     Frame([i64; 9], Vec3, Option<u16>),
     Voxels,
     Sum,
+    Place(BlockKey),
     End,
 }
 
@@ -33,6 +35,7 @@ fn summary(entry: Entry) -> Seen {
         }
         Entry::Voxels => Seen::Voxels,
         Entry::Sum => Seen::Sum,
+        Entry::Place(key) => Seen::Place(key),
         Entry::End => Seen::End,
     }
 }
@@ -96,12 +99,17 @@ fn records_are_read_in_pieces(rt: HostRuntime) -> Result<(), Fail> {
         z: 0,
     };
     let rest =
-        b"\nframe 1.0000000000000000000e+00 0 0 .5 0 1 0 0.0000005 0 0 1 -0.0000005\nP5\n1 1\n65535\n\x03\xE8\n\n \t\r\n\t sum\r\nvoxels\t \nend\nend now\n";
+        b"\nframe 1.0000000000000000000e+00 0 0 .5 0 1 0 0.0000005 0 0 1 -0.0000005\nP5\n1 1\n65535\n\x03\xE8\n\n \t\r\n\t sum\r\nvoxels\t \nplace -32768 32767 -0\nend\nend now\n";
     let text = scan(alloc, ("{", "{"), rest, 0, b' ')?;
     let all = vec![in alloc;
         Seen::Frame(rows, place, Some(1000)),
         Seen::Sum,
         Seen::Voxels,
+        Seen::Place(BlockKey {
+            x: i16::MIN,
+            y: i16::MAX,
+            z: 0
+        }),
         Seen::End,
     ]?;
     for piece in [1, 4096] {
@@ -142,7 +150,7 @@ fn a_bad_first_line_is_refused_at_its_offset(rt: HostRuntime) -> Result<(), Fail
 fn a_bad_record_is_refused_at_its_offset(rt: HostRuntime) -> Result<(), Fail> {
     let alloc = rt.alloc();
     let (magic, header) = (BadWhat::Pgm(PgmKind::Magic), BadWhat::Pgm(PgmKind::Header));
-    let cases: [(&str, &[u8], u64, BadWhat); 10] = [
+    let cases: [(&str, &[u8], u64, BadWhat); 15] = [
         ("an unknown word", b"frames 1\n", 233, Line),
         ("after blank lines", b"\n \n\rsums\n", 236, Line),
         ("a word after end", b"end now\n", 233, Line),
@@ -158,6 +166,11 @@ fn a_bad_record_is_refused_at_its_offset(rt: HostRuntime) -> Result<(), Fail> {
             262,
             Number,
         ),
+        ("two coordinates", b"place 0 0\n", 233, Line),
+        ("four", b"place 0 0 x 0\n", 233, Line),
+        ("a coordinate's range", b"place 0 0 40000\n", 243, Number),
+        ("a plus", b"place 0 +1 0\n", 241, Number),
+        ("six digits", b"place 000001 0 x\n", 239, Number),
     ];
     for (name, rest, at, what) in cases {
         let mut text = scan(alloc, ("{", "{"), b"\n", 0, b' ')?;

@@ -1,20 +1,24 @@
 ghost use Rattle.std.specs.Prelude.{◌≡◌, ◌<◌, ◌≤◌, ◌==◌, not, length, position, IfSome, Some};
 ghost use Rattle.std.specs.List.{position_or_len};
 ghost use Rattle.scan_lang.specs.Offsets.{offset_after, fault};
-ghost use Rattle.scan_lang.specs.Words.{is_blank as blank_test, words_of, scale_of, number_at, numbers_from, rows_in as rows_of, frame_head, alone as alone_of, one_word as record_of, head_with, head_of};
+ghost use Rattle.scan_lang.specs.Words.{is_blank as blank_test, words_of, scale_of, number_at, numbers_from, rows_in as rows_of, frame_head, coordinate_at, place_head, alone as alone_of, one_word as record_of, head_with, head_of};
 ghost use Rattle.scan_lang.specs.Spans.{bytes_of, words_from, words_with};
 ghost use Rattle.scan_lang.specs.declared.error.BadWhat.TheVariants.{Line, Number};
 
+use crate::coordinate::read_coordinate;
 use crate::entry::Entry;
 use crate::error::{BadScan, BadWhat};
 use crate::head::Head;
 use fixed_geom::{PoseRows, Vec3, read_decimal};
+use voxel_block::BlockKey;
 
 const METRE: i64 = 1_000_000;
 
 const ONE: i64 = 1 << 30;
 
 const FRAME_NUMBERS: usize = 12;
+
+const COORDINATES: usize = 3;
 
 /// The bytes of a line from the index `start` to before `end`.
 #[derive(Clone, Copy, Debug, PartialEq, Eq)]
@@ -52,6 +56,9 @@ fn read_record(offset: u64, line: &[u8], word: Span) -> Result<Head, BadScan>
     let bytes = &line[word.start..word.end];
     if bytes == b"frame".as_slice() {
         return read_frame(offset, line, word.end);
+    }
+    if bytes == b"place".as_slice() {
+        return read_place(offset, line, word.end);
     }
     match one_word(bytes) {
         Some(entry) => alone(offset, entry, line, word.end),
@@ -92,7 +99,7 @@ fn read_frame(offset: u64, line: &[u8], from: usize) -> Result<Head, BadScan>
     requires { from ≤ length line.now }
     ensures { result ≡ frame_head offset (words_from from line.now) }
 {
-    if !are_twelve(line, from) {
+    if !has_words(line, from, FRAME_NUMBERS) {
         return Err(line_fault(offset));
     }
     let numbers = read_numbers(offset, line, from)?;
@@ -113,13 +120,13 @@ fn rows_in(n: &[i64; FRAME_NUMBERS]) -> PoseRows
     }
 }
 
-// Whether there are exactly twelve words from an index on.
-fn are_twelve(line: &[u8], from: usize) -> bool
+// Whether there are exactly `count` words from an index on.
+fn has_words(line: &[u8], from: usize, count: usize) -> bool
     requires { from ≤ length line.now }
-    ensures { result ≡ (length (words_from from line.now) == 12) }
+    ensures { result ≡ (length (words_from from line.now) == count) }
 {
     let mut next = from;
-    for _ in 0..FRAME_NUMBERS {
+    for _ in 0..count {
         let word = next_word(line, next);
         if word.is_empty() {
             return false;
@@ -152,10 +159,38 @@ fn read_number(offset: u64, index: usize, line: &[u8], word: Span) -> Result<i64
 {
     match read_decimal(&line[word.start..word.end], scale(index)) {
         Ok(number) => Ok(number),
-        Err(_) => Err(BadScan {
-            at: offset.saturating_add(word.start as u64),
-            what: BadWhat::Number,
-        }),
+        Err(_) => Err(number_fault(offset, word)),
+    }
+}
+
+// The place of a block, whose word ends at the index `from`; three coordinates follow.
+fn read_place(offset: u64, line: &[u8], from: usize) -> Result<Head, BadScan>
+    requires { from ≤ length line.now }
+    ensures { result ≡ place_head offset (words_from from line.now) }
+{
+    if !has_words(line, from, COORDINATES) {
+        return Err(line_fault(offset));
+    }
+    let x = next_word(line, from);
+    let y = next_word(line, x.end);
+    let z = next_word(line, y.end);
+    let key = BlockKey {
+        x: key_coordinate(offset, line, x)?,
+        y: key_coordinate(offset, line, y)?,
+        z: key_coordinate(offset, line, z)?,
+    };
+    Ok(Head::Whole(Entry::Place(key)))
+}
+
+// A coordinate of a key, in the line at `offset`.
+fn key_coordinate(offset: u64, line: &[u8], word: Span) -> Result<i16, BadScan>
+    requires order { word.start ≤ word.end }
+    requires bound { word.end ≤ length line.now }
+    ensures { result ≡ coordinate_at offset (record { at = word.start; bytes = bytes_of line.now word }) }
+{
+    match read_coordinate(&line[word.start..word.end]) {
+        Some(coordinate) => Ok(coordinate),
+        None => Err(number_fault(offset, word)),
     }
 }
 
@@ -213,6 +248,16 @@ fn is_blank(byte: u8) -> bool
     ensures { result ≡ blank_test byte }
 {
     byte == b' ' || byte == b'\t' || byte == b'\r'
+}
+
+// A word that is no number, in the line at `offset`.
+fn number_fault(offset: u64, word: Span) -> BadScan
+    ensures { result ≡ fault Number (offset_after offset word.start) }
+{
+    BadScan {
+        at: offset.saturating_add(word.start as u64),
+        what: BadWhat::Number,
+    }
 }
 
 fn line_fault(offset: u64) -> BadScan

@@ -1,13 +1,16 @@
 -- What a scan's entries do, one after another, and what is answered.
-use Rattle.std.specs.Prelude.{ℕ, ◌-◌, ◌^◌, nat_lt, ℤ, pos, neg_ℤ, ◌+ℤ◌, Bool, if◌then◌else◌, List, length, Option, None, Some, Result, Ok, Err}
+use Rattle.std.specs.Prelude.{ℕ, ◌-◌, ◌^◌, nat_lt, ℤ, pos, neg_ℤ, ◌+ℤ◌, Bool, false, if◌then◌else◌, List, length, Option, None, Some, Result, Ok, Err}
 use Rattle.std.specs.Int.{int_min, int_max}
 use Rattle.std.specs.List.{flat_map, filter_map, enumerate_from, sum_by, fold}
-use Rattle.std.specs.FinMap.{len, entries}
+use Rattle.std.specs.FinMap.{contains_key, len, entries}
+use Rattle.fixed_geom.specs.Poses.{Pose}
 use Rattle.fixed_geom.specs.declared.pose.PoseRows.{PoseRows}
 use Rattle.fixed_geom.specs.declared.pose.BadPose.TheVariants as poses
 use Rattle.voxel_block.specs.declared.key.BlockKey.{BlockKey}
 use Rattle.voxel_block.specs.declared.voxel.Voxel.{Voxel}
 use Rattle.depth_frame.specs.DepthMaps.{DepthMap}
+use Rattle.camera.specs.declared.camera.CameraFields.{CameraFields}
+use Rattle.camera.specs.Cameras.{is_active}
 use Rattle.camera.specs.Grid.{voxel_coordinates}
 use Rattle.scan_io.specs.Reading.{saturated}
 use Rattle.scan_io.specs.Steps.{◌>>=◌}
@@ -22,6 +25,8 @@ use Rattle.scan_lang.specs.declared.entry.Entry.{Entry}
 use Rattle.scan_lang.specs.declared.entry.Entry.TheVariants as entry
 use Rattle.scan_lang.specs.declared.reply.FrameDone.{FrameDone}
 use Rattle.scan_lang.specs.declared.reply.KnownVoxel.{KnownVoxel}
+use Rattle.scan_lang.specs.declared.reply.Place.{Place}
+use Rattle.scan_lang.specs.declared.reply.Place.TheVariants as places
 use Rattle.scan_lang.specs.declared.reply.Totals.{Totals}
 use Rattle.scan_lang.specs.declared.reply.Reply.{Reply}
 use Rattle.scan_lang.specs.declared.reply.Reply.TheVariants as replies
@@ -84,6 +89,19 @@ totals_of m = record {
   distance = within_i64 (fold (λ a v. a +ℤ v.f) (pos 0) (known_voxels m));
 }
 
+-- ---- places
+
+-- whether a block is active for the last frame; none is where there is no last frame
+abbrev pub is_active_last : CameraFields → Option Pose → BlockKey → Bool
+is_active_last k None b = false
+is_active_last k (Some pose) b = is_active k pose b
+
+-- where the block of a key lies at a state: in the heap where it is active for the last frame, else in the store; nowhere where the map lacks it
+abbrev pub place_in : Config → State → BlockKey → Place
+place_in c s b =
+    if contains_key s.blocks b then (if is_active_last c.camera s.last b then places.Heap else places.Store)
+    else places.Nowhere
+
 -- ---- entries
 
 -- the state after an entry
@@ -91,6 +109,7 @@ abbrev pub after : Config → State → Entry → State
 after c s (entry.Frame rows depths) = after_frame s (judged (settings_of c) s rows depths)
 after c s entry.Voxels = s
 after c s entry.Sum = s
+after c s (entry.Place b) = s
 after c s entry.End = s
 
 -- the reply to an entry at a state
@@ -98,4 +117,5 @@ abbrev pub reply_to : Config → State → Entry → Reply
 reply_to c s (entry.Frame rows depths) = frame_reply (frame_answer c s rows depths)
 reply_to c s entry.Voxels = replies.Voxels (len s.blocks) (known_voxels s.blocks)
 reply_to c s entry.Sum = replies.Totals (totals_of s.blocks)
+reply_to c s (entry.Place b) = replies.Place (place_in c s b)
 reply_to c s entry.End = replies.End

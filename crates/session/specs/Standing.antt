@@ -1,11 +1,8 @@
 -- Where the blocks of a session lie between its calls.
-use Rattle.std.specs.Prelude.{◌≡◌, ◌↔◌, ◌&&◌, ℕ, ◌+◌, ◌*◌, Bool, false, IsTrue, List, length, Option, Some, None, ◌⊎◌}
+use Rattle.std.specs.Prelude.{◌≡◌, ◌↔◌, ◌&&◌, ℕ, ◌+◌, ◌*◌, IsTrue, List, length, Some, None, ◌⊎◌}
 use Rattle.std.specs.FinMap.{get, contains_key, empty}
-use Rattle.fixed_geom.specs.Poses.{Pose}
 use Rattle.voxel_block.specs.declared.key.BlockKey.{BlockKey}
 use Rattle.voxel_block.specs.declared.voxel.Voxel.{Voxel}
-use Rattle.camera.specs.declared.camera.CameraFields.{CameraFields}
-use Rattle.camera.specs.Cameras.{is_active}
 use Rattle.spatial_hash.specs.Contents.{contents}
 use Rattle.spatial_hash.specs.Table.{Table}
 use Rattle.block_places.specs.Owners.{owner_at}
@@ -13,12 +10,7 @@ use Rattle.block_places.specs.Places.{Places, IsPlaced, blocks_of, cell_of}
 use Rattle.fusion_core.specs.Laws.{HasKeysInReach, HasMapWeightsWithin, IsSound}
 use Rattle.scan_lang.specs.Config.{Config}
 use Rattle.session.specs.Answers.{SessionView, state_of}
-use Rattle.session.specs.Fold.{settings_of}
-
--- whether a block is active for the last frame; none is where there is no last frame
-abbrev pub is_active_last : CameraFields → Option Pose → BlockKey → Bool
-is_active_last k None b = false
-is_active_last k (Some pose) b = is_active k pose b
+use Rattle.session.specs.Fold.{settings_of, is_active_last}
 
 -- the block of a key lies in its slot, and in no cell
 pub record IsStored (p : Places) (b : BlockKey) : Type 0 where

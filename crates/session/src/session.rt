@@ -12,7 +12,7 @@ ghost use Rattle.fusion_core.specs.Maps.{HasWholeBlocks, all_updated};
 ghost use Rattle.fusion_core.specs.Fold.{start as first_state, has_size};
 ghost use Rattle.scan_lang.specs.declared.entry.Entry.TheVariants as entries;
 ghost use Rattle.session.specs.Answers.{frame_cause, state_of};
-ghost use Rattle.session.specs.Fold.{after, frame_answer, known_voxels as known_voxels_of, settings_of, totals_of};
+ghost use Rattle.session.specs.Fold.{after, frame_answer, known_voxels as known_voxels_of, place_in, settings_of, totals_of};
 ghost use Rattle.session.specs.Rooms.{IsPlan};
 ghost use Rattle.session.specs.Standing.{Stands};
 
@@ -26,10 +26,10 @@ use block_places::Places;
 use depth_frame::DepthFrame;
 use fixed_geom::{BadPose, Pose, PoseRows};
 use fusion_core::{Frame, Settings};
-use scan_lang::{Config, FrameDone, KnownVoxel, Totals};
+use scan_lang::{Config, FrameDone, KnownVoxel, Place, Totals};
 use std::alloc::Global;
 use std::marker::Model;
-use voxel_block::NoMemory;
+use voxel_block::{BlockKey, NoMemory};
 
 /// The map of the frames so far, their number, and the pose of the last one, under a configuration.
 ///
@@ -123,6 +123,20 @@ impl Session {
         ensures stands { Stands self.new }
     {
         Ok(totals(&self.places))
+    }
+
+    /// Where the block of a key lies. Takes no memory.
+    pub fn place_of(&self, key: BlockKey) -> Place
+        ensures place { result ≡ place_in self.now.config (state_of self.now) key }
+        ensures stands { Stands self.now }
+    {
+        if self.places.is_away(key) {
+            Place::Heap
+        } else if self.places.contains(key) {
+            Place::Store
+        } else {
+            Place::Nowhere
+        }
     }
 }
 

@@ -6,9 +6,10 @@ ghost use Rattle.session.specs.Fold.{after, known_voxels};
 use super::*;
 use depth_frame::DepthFrame;
 use fixed_geom::{BadPose, PoseRows, Vec3};
-use scan_lang::{FrameDone, KnownVoxel, Totals, read_config};
+use scan_lang::{FrameDone, KnownVoxel, Place, Totals, read_config};
 use std::alloc::Global;
 use std::test::Fail;
+use voxel_block::BlockKey;
 
 const ONE: i64 = 1 << 30;
 
@@ -174,13 +175,17 @@ fn blocks_leave_the_heap_and_come_back(rt: HostRuntime) {
     let session = session(alloc, 2);
     assert!(rt; session.is_some());
     if let Some(mut session) = session {
-        for (x, answer) in [
-            (0, done(1, 2, 2)),
-            (50000000, done(2, 4, 2)),
-            (0, done(3, 4, 2)),
+        let near = BlockKey { x: 0, y: 0, z: 12 };
+        let beside = BlockKey { x: 1, y: 0, z: 12 };
+        for (x, answer, place) in [
+            (0, done(1, 2, 2), Place::Heap),
+            (50000000, done(2, 4, 2), Place::Store),
+            (0, done(3, 4, 2), Place::Heap),
         ] {
             let fused = fuse(alloc, &mut session, (AHEAD, x, 1, 1000));
             assert_eq!(rt; fused, Some(answer));
+            assert_eq!(rt; session.place_of(near), place);
+            assert_eq!(rt; session.place_of(beside), Place::Nowhere);
         }
         let depths = vec![in alloc; 1000; 1]
             .ok()

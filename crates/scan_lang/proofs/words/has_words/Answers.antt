@@ -2,7 +2,7 @@ use Rattle.std.proofs.Common.{◌≡◌, ap, length, arith}
 use Rattle.std.proofs.lemmas.Bool.Decides.{nat_tests}
 use Rattle.scan_lang.specs.Spans.{words_with, words_from}
 use Rattle.scan_lang.proofs.WordLemmas.{count_with}
-use Rattle.scan_lang.proofs.words.are_twelve.Goals as goal
+use Rattle.scan_lang.proofs.words.has_words.Goals as goal
 
 pub loop-preserved : goal.loop-preserved
 loop-preserved c =

@@ -1,6 +1,6 @@
 use Rattle.std.proofs.Common.{◌≡◌, ◌≤◌, ◌+◌, length}
 use Rattle.scan_lang.specs.Spans.{words_from}
-use Rattle.scan_lang.proofs.words.are_twelve.Given as goal
+use Rattle.scan_lang.proofs.words.has_words.Given as goal
 
 abbrev pub invariant-loop : goal.invariant-loop
 invariant-loop l = record {
