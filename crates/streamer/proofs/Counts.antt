@@ -95,7 +95,7 @@ or_second false b e = e
 
 
 -- two lists of keys that differ, and share none
-distinct-both : (ks ls : List BlockKey) → IsDistinct same_key ks → IsDistinct same_key ls → ((q : BlockKey) → list_any (same_key q) ks ≡ true → list_any (same_key q) ls ≡ false) → IsDistinct same_key (ks ++ ls)
+pub distinct-both : (ks ls : List BlockKey) → IsDistinct same_key ks → IsDistinct same_key ls → ((q : BlockKey) → list_any (same_key q) ks ≡ true → list_any (same_key q) ls ≡ false) → IsDistinct same_key (ks ++ ls)
 distinct-both [] ls dk dl apart = dl
 distinct-both (k ∷ ks) ls dk dl apart = IsDistinct-cons same_key _ _
     (all-both (λ y. same_key k y ≡ false) ks ls (IsDistinct-head same_key _ _ dk) (none_below k ls (apart k (ap (λ b. b || list_any (same_key k) ks) (key_itself k)))))
