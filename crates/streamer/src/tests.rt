@@ -1,8 +1,6 @@
-ghost use Rattle.std.specs.Prelude.{◌≡◌, if◌then◌else◌, IsTrue, OnOk};
+ghost use Rattle.std.specs.Prelude.{◌≡◌, if◌then◌else◌};
 ghost use Rattle.std.specs.FinMap.{insert};
-ghost use Rattle.std.specs.FinSet.{contains};
 ghost use Rattle.voxel_block.specs.Blocks.{new_block};
-ghost use Rattle.voxel_block.specs.Chunks.{chunk_of};
 ghost use Rattle.voxel_block.specs.Voxels.{IsVoxel};
 ghost use Rattle.streamer.specs.Places.{blocks_of};
 
@@ -63,22 +61,14 @@ fn first(rest: &Rest, key: BlockKey) -> Option<Voxel> {
     Some(rest.lend(key)?.get(0))
 }
 
-// Opens the chunk of a key.
-fn open(rest: &mut Rest, alloc: Global, key: BlockKey) -> Result<(), NoMemory>
-    ensures { OnOk result (IsTrue (contains rest.new.store.opened (chunk_of key))) }
-{
-    rest.reserve_out(alloc, &[key])
-}
-
 // Sends the block of a key to the store, where the key is resident.
-fn send(rest: &mut Rest, alloc: Global, key: BlockKey) -> Result<bool, NoMemory> {
+fn send(rest: &mut Rest, alloc: Global, key: BlockKey) -> Result<(), NoMemory> {
     let packed = Packed::make(alloc)?;
-    open(rest, alloc, key)?;
+    rest.reserve_out(alloc, &[key])?;
     if rest.is_resident(key) {
         rest.leave(key, packed);
-        return Ok(true);
     }
-    Ok(false)
+    Ok(())
 }
 
 // Brings the block of a key to the heap, where it is stored and a cell is free.
