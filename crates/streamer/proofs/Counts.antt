@@ -92,7 +92,6 @@ or_second : (a b : Bool) → (a || b) ≡ false → b ≡ false
 or_second true b e = absurd (cc)
 or_second false b e = e
 
-
 -- two lists of keys that differ, and share none
 pub distinct-both : (ks ls : List BlockKey) → IsDistinct same_key ks → IsDistinct same_key ls → ((q : BlockKey) → list_any (same_key q) ks ≡ true → list_any (same_key q) ls ≡ false) → IsDistinct same_key (ks ++ ls)
 distinct-both [] ls dk dl apart = dl
@@ -103,9 +102,11 @@ distinct-both (k ∷ ks) ls dk dl apart = IsDistinct-cons same_key _ _
     or_right : (a b : Bool) → b ≡ true → (a || b) ≡ true
     or_right true b e = refl
     or_right false b e = e
+
     none_below : (x : BlockKey) (ys : List BlockKey) → list_any (same_key x) ys ≡ false → AllByRecursion (λ y. same_key x y ≡ false) ys
     none_below x [] e = tt
     none_below x (y ∷ ys) e = (or_first (same_key x y) (list_any (same_key x) ys) e, none_below x ys (or_second (same_key x y) (list_any (same_key x) ys) e))
+
     all-both : (P : BlockKey → Type 0) (ks ls : List BlockKey) → AllByRecursion P ks → AllByRecursion P ls → AllByRecursion P (ks ++ ls)
     all-both P [] ls a b = b
     all-both P (x ∷ xs) ls a b = (a.0, all-both P xs ls a.1 b)

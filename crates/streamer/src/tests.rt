@@ -107,14 +107,27 @@ fn a_key_is_resident_or_stored(rt: HostRuntime) -> Result<(), Fail> {
     is_shared(&rest);
     for (name, key, resident, stored, voxel) in [
         ("stored", key(-1, 0, 5), false, true, None),
-        ("resident", key(0, 0, 0), true, false, Some(Voxel { f: -7, w: 2 })),
+        (
+            "resident",
+            key(0, 0, 0),
+            true,
+            false,
+            Some(Voxel { f: -7, w: 2 }),
+        ),
         ("not known", key(1, 0, 0), false, false, None),
     ] {
-        assert_eq!(rt; (rest.is_resident(key), rest.is_stored(key)), (resident, stored), "{name}");
+        assert_eq!(rt;
+            (rest.is_resident(key), rest.is_stored(key)),
+            (resident, stored),
+            "{name}"
+        );
         assert_eq!(rt; rest.contains(key), resident || stored, "{name}");
         assert_eq!(rt; first(&rest, key), voxel, "{name}");
     }
-    assert_eq!(rt; (rest.cell_count(), rest.free_count(), rest.len()), (2, 1, 2));
+    assert_eq!(rt;
+        (rest.cell_count(), rest.free_count(), rest.len()),
+        (2, 1, 2)
+    );
     assert_eq!(rt;
         rest.keys(rt.alloc())?.as_slice(),
         [key(-1, 0, 5), key(0, 0, 0)].as_slice()
@@ -184,7 +197,10 @@ fn a_frame_has_a_plan(rt: HostRuntime) -> Result<(), Fail> {
     let plan = plan_frame(rt.alloc(), &rest, &touched, &camera, &pose)?;
     assert_eq!(rt; plan.leave.as_slice(), [key(625, 0, 12)].as_slice());
     assert_eq!(rt; plan.enter.as_slice(), [key(0, 0, 13)].as_slice());
-    assert_eq!(rt; plan.fresh.as_slice(), [key(0, 0, 14), key(627, 0, 12)].as_slice());
+    assert_eq!(rt;
+        plan.fresh.as_slice(),
+        [key(0, 0, 14), key(627, 0, 12)].as_slice()
+    );
     // Block (0, 0, -13) is active behind the camera.
     assert_eq!(rt; plan.stay.as_slice(), [key(0, 0, 12)].as_slice());
     assert_eq!(rt; plan.need, 4);
