@@ -96,7 +96,7 @@ abbrev pub is_active_last : CameraFields → Option Pose → BlockKey → Bool
 is_active_last k None b = false
 is_active_last k (Some pose) b = is_active k pose b
 
--- where the block of a key lies: in the heap where it is active for the last frame
+-- where the block of a key lies at a state: in the heap where it is active for the last frame, else in the store; nowhere where the map lacks it
 abbrev pub place_in : Config → State → BlockKey → Place
 place_in c s b =
     if contains_key s.blocks b then (if is_active_last c.camera s.last b then places.Heap else places.Store)

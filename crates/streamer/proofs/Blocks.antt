@@ -1,15 +1,14 @@
 -- The map that the places tell, key by key.
-use Rattle.std.proofs.Common.{◌≡◌, ℕ, ◌+◌, Bool, true, false, cond, ◌||◌, List, [], ◌∷◌, ◌++◌, map, length, refl, sym, ap, ◌∙◌}
+use Rattle.std.proofs.Common.{◌≡◌, ℕ, Bool, true, false, cond, ◌||◌, List, [], ◌∷◌, ◌++◌, map, refl, sym, ap, ◌∙◌}
 use Rattle.std.specs.Prelude.{Option, Some, None, is_some}
 use Rattle.std.specs.Option.{option_map}
 use Rattle.std.specs.Ordering.{eq_by_cmp}
-use Rattle.std.specs.FinMap.{FinMap, contains_key, entries, find, from_entries, get, same_map, get-entries, get-from_entries}
+use Rattle.std.specs.FinMap.{FinMap, contains_key, entries, find, get, same_map, get-entries, get-from_entries}
 use Rattle.voxel_block.specs.declared.key.BlockKey.{BlockKey}
 use Rattle.voxel_block.specs.declared.voxel.Voxel.{Voxel}
 use Rattle.voxel_block.specs.Keys.{key_cmp}
 use Rattle.voxel_block.proofs.KeyLaws.{exact_keys, keys_total}
 use Rattle.spatial_hash.specs.Contents.{contents}
-use Rattle.block_heap.specs.Cells.{Cells}
 use Rattle.streamer.specs.Owners.{block_in}
 use Rattle.streamer.specs.Places.{Places, blocks_of, cell_of, in_heap, resident_blocks, stored_blocks}
 use Rattle.voxel_block.specs.Packing.{voxels_in}

@@ -1,17 +1,16 @@
 -- How many known keys pass a test: those in the heap and those in the store.
-use Rattle.std.proofs.Common.{◌≡◌, ℕ, ◌+◌, Bool, true, false, cond, ◌||◌, List, [], ◌∷◌, ◌++◌, map, length, refl, sym, ap, subst, ◌∙◌, arith}
-use Rattle.std.specs.Prelude.{Option, Some, None, IsTrue, is_some}
+use Rattle.std.proofs.Common.{◌≡◌, ◌+◌, Bool, true, false, cond, ◌||◌, List, [], ◌∷◌, ◌++◌, map, length, refl, sym, ap, subst, ◌∙◌, arith}
+use Rattle.std.specs.Prelude.{Option, Some, is_some}
 use Rattle.std.specs.List.{AllByRecursion, IsDistinct, count_by, list_any}
 use Rattle.std.specs.Ordering.{eq_by_cmp, is_eq}
 use Rattle.std.specs.declared.cmp.Ordering.{Ordering}
 use Rattle.std.specs.declared.cmp.Ordering.TheVariants.{Less, Equal, Greater}
-use Rattle.std.specs.FinMap.{FinMap, contains_key, empty, entries, find, from_entries, get, insert, keys, len, len-empty, len-entries, contains_key-keys, entries-insert, get-entries, get-from_entries}
+use Rattle.std.specs.FinMap.{FinMap, contains_key, empty, entries, find, from_entries, insert, keys, len, len-empty, len-entries, contains_key-keys, entries-insert, get-entries, get-from_entries}
 use Rattle.std.specs.FinMap.Entries.{by_order, put}
 use Rattle.std.proofs.lemmas.List.{length-map, nil_from_length}
 use Rattle.std.proofs.lemmas.List.Sums.{sum_by-append, sum_by-cons}
 use Rattle.std.proofs.lemmas.Map.Keys.{IsDistinct-cons, IsDistinct-head, IsDistinct-IsPermutation, IsDistinct-tail}
 use Rattle.voxel_block.specs.declared.key.BlockKey.{BlockKey}
-use Rattle.voxel_block.specs.declared.voxel.Voxel.{Voxel}
 use Rattle.voxel_block.specs.Keys.{key_cmp, same_key}
 use Rattle.voxel_block.proofs.KeyLaws.{key_itself, keys_total}
 use Rattle.spatial_hash.specs.Contents.{contents}
@@ -93,9 +92,8 @@ or_second : (a b : Bool) → (a || b) ≡ false → b ≡ false
 or_second true b e = absurd (cc)
 or_second false b e = e
 
-
 -- two lists of keys that differ, and share none
-distinct-both : (ks ls : List BlockKey) → IsDistinct same_key ks → IsDistinct same_key ls → ((q : BlockKey) → list_any (same_key q) ks ≡ true → list_any (same_key q) ls ≡ false) → IsDistinct same_key (ks ++ ls)
+pub distinct-both : (ks ls : List BlockKey) → IsDistinct same_key ks → IsDistinct same_key ls → ((q : BlockKey) → list_any (same_key q) ks ≡ true → list_any (same_key q) ls ≡ false) → IsDistinct same_key (ks ++ ls)
 distinct-both [] ls dk dl apart = dl
 distinct-both (k ∷ ks) ls dk dl apart = IsDistinct-cons same_key _ _
     (all-both (λ y. same_key k y ≡ false) ks ls (IsDistinct-head same_key _ _ dk) (none_below k ls (apart k (ap (λ b. b || list_any (same_key k) ks) (key_itself k)))))
@@ -104,9 +102,11 @@ distinct-both (k ∷ ks) ls dk dl apart = IsDistinct-cons same_key _ _
     or_right : (a b : Bool) → b ≡ true → (a || b) ≡ true
     or_right true b e = refl
     or_right false b e = e
+
     none_below : (x : BlockKey) (ys : List BlockKey) → list_any (same_key x) ys ≡ false → AllByRecursion (λ y. same_key x y ≡ false) ys
     none_below x [] e = tt
     none_below x (y ∷ ys) e = (or_first (same_key x y) (list_any (same_key x) ys) e, none_below x ys (or_second (same_key x y) (list_any (same_key x) ys) e))
+
     all-both : (P : BlockKey → Type 0) (ks ls : List BlockKey) → AllByRecursion P ks → AllByRecursion P ls → AllByRecursion P (ks ++ ls)
     all-both P [] ls a b = b
     all-both P (x ∷ xs) ls a b = (a.0, all-both P xs ls a.1 b)

@@ -1,7 +1,6 @@
 -- Places of which one key moves.
-use Rattle.std.proofs.Common.{◌≡◌, ◌≢◌, ℕ, ◌+◌, Bool, true, false, cond, ◌||◌, List, length, refl, sym, ap, ◌∙◌, subst, arith}
+use Rattle.std.proofs.Common.{◌≡◌, ◌≢◌, ℕ, ◌+◌, true, false, List, length, refl, sym, ap, ◌∙◌, subst, arith}
 use Rattle.std.specs.Prelude.{Option, Some, None, IsTrue, is_some}
-use Rattle.std.specs.Option.{option_map}
 use Rattle.std.specs.FinMap.{FinMap, contains_key, get, insert, len, remove, same_map}
 use Rattle.voxel_block.specs.declared.key.BlockKey.{BlockKey}
 use Rattle.voxel_block.specs.declared.voxel.Voxel.{Voxel}
@@ -13,10 +12,10 @@ use Rattle.streamer.specs.Owners.{block_in, owner_at, voxels_of}
 use Rattle.streamer.specs.Places.{IsPackedBlock, IsPlaced, Places, blocks_of, cell_of, in_heap}
 use Rattle.voxel_block.specs.Packing.{IsBlock, IsKey, packed, voxels_in}
 use Rattle.voxel_block.proofs.Packing.{voxels_in-packed}
-use Rattle.streamer.proofs.Blocks.{get-blocks, get-resident, get-stored, has-blocks, in_store, is-blocks, or_else}
+use Rattle.streamer.proofs.Blocks.{get-blocks, get-resident, in_store, is-blocks, or_else}
 use Rattle.voxel_block.proofs.KeyLaws.{by_key, exact_keys, gone_elsewhere, gone_here, keys_total, len_put, put_elsewhere, put_here}
 use Rattle.block_heap.proofs.FreeLists.{by_number}
-use Rattle.streamer.proofs.Keyed.{len_gone, none_of, some_of, the_same}
+use Rattle.streamer.proofs.Keyed.{len_gone, the_same}
 use Rattle.streamer.proofs.Owning.{IsChanged}
 
 -- the key whose cell this is

@@ -1,6 +1,6 @@
 -- Places with no key.
-use Rattle.std.proofs.Common.{◌≡◌, ℕ, zero, suc, ◌+◌, ◌*◌, false, true, List, length, refl, sym, ap, ◌∙◌, arith}
-use Rattle.std.specs.Prelude.{Option, Some, None, replicate, slice_get, is_some}
+use Rattle.std.proofs.Common.{◌≡◌, ℕ, zero, suc, ◌+◌, ◌*◌, List, length, refl, sym, ap, ◌∙◌, arith}
+use Rattle.std.specs.Prelude.{Option, Some, None, replicate, slice_get}
 use Rattle.std.specs.Option.{option_and_then}
 use Rattle.std.specs.FinMap.{empty, get, len, get-empty, len-empty}
 use Rattle.std.proofs.lemmas.List.{length-replicate}

@@ -1,14 +1,12 @@
 -- Places in which a resident key has another block.
-use Rattle.std.proofs.Common.{◌≡◌, ◌≢◌, ℕ, true, false, cond, List, length, refl, sym, ap, ◌∙◌, subst, arith}
-use Rattle.std.specs.Prelude.{Option, Some, None, IsTrue, is_some}
-use Rattle.std.specs.Option.{option_map}
+use Rattle.std.proofs.Common.{◌≡◌, ◌≢◌, ℕ, List, length, refl, sym, ap, ◌∙◌, subst, arith}
+use Rattle.std.specs.Prelude.{Option, Some, None, IsTrue}
 use Rattle.std.specs.FinMap.{contains_key, get, insert}
 use Rattle.voxel_block.specs.declared.key.BlockKey.{BlockKey}
 use Rattle.voxel_block.specs.declared.voxel.Voxel.{Voxel}
 use Rattle.voxel_block.specs.Blocks.{new_block}
 use Rattle.voxel_block.proofs.KeyLaws.{by_key, put_elsewhere, put_here}
 use Rattle.spatial_hash.specs.Contents.{contents}
-use Rattle.block_heap.specs.Cells.{Cells}
 use Rattle.block_heap.specs.HeapLending.{with_block_at}
 use Rattle.block_heap.proofs.FreeLists.{by_number}
 use Rattle.streamer.specs.Owners.{block_in, owner_at, voxels_of}

@@ -27,7 +27,6 @@ none_from [] (suc i) h = refl
 none_from (x ∷ xs) zero h = absurd (omega arith)
 none_from (x ∷ xs) (suc i) h = none_from xs i (omega arith)
 
-
 module _ (test : BlockKey → Bool) where
   -- what was noted and what is still to come
   abbrev pub Noted : List BlockKey → List BlockKey → List BlockKey → Type 0

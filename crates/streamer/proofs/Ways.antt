@@ -1,7 +1,7 @@
 -- The ways of a block, from what their steps do.
-use Rattle.std.proofs.Common.{◌≡◌, ◌≢◌, ℕ, ◌+◌, ◌<◌, ◌≤◌, Bool, true, cond, List, length, refl, sym, ap, subst, ◌∙◌, arith, false}
+use Rattle.std.proofs.Common.{◌≡◌, ℕ, ◌+◌, ◌<◌, ◌≤◌, Bool, true, cond, List, length, refl, sym, ap, subst, ◌∙◌, arith, false}
 use Rattle.std.specs.Prelude.{All, Option, Some, None, is_some, slice_get}
-use Rattle.std.specs.Option.{option_and_then, option_map}
+use Rattle.std.specs.Option.{option_and_then}
 use Rattle.std.specs.FinMap.{contains_key, get, insert, remove}
 use Rattle.voxel_block.specs.declared.key.BlockKey.{BlockKey}
 use Rattle.voxel_block.specs.declared.voxel.Voxel.{Voxel}
@@ -15,8 +15,8 @@ use Rattle.streamer.specs.Owners.{block_in, owner_at}
 use Rattle.streamer.specs.Places.{IsPlaced, Places, blocks_of, cell_of}
 use Rattle.streamer.proofs.Blocks.{get-stored, in_store}
 use Rattle.voxel_block.specs.Packing.{IsBlock, IsKey, packed, voxels_in}
-use Rattle.streamer.proofs.Keyed.{none_of, the_same}
-use Rattle.streamer.proofs.Moves.{IsLeft, IsSettledIn, IsVacated}
+use Rattle.streamer.proofs.Keyed.{none_of}
+use Rattle.streamer.proofs.Moves.{IsLeft, IsSettledIn}
 use Rattle.streamer.proofs.Owning.{IsChanged, below, entered, entered_free, left, left_free, made_free, made_in, owner_is, vacant}
 
 -- the cell that the hash names is one of the heap's

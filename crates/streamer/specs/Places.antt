@@ -1,6 +1,6 @@
 -- Where the blocks of a map lie.
 use Rattle.std.specs.Prelude.{◌≡◌, ℕ, ◌+◌, ◌<◌, ◌++◌, List, map, length, Option, Some, None, IsTrue, option_map}
-use Rattle.std.specs.FinMap.{FinMap, contains_key, entries, from_entries, get, insert, len}
+use Rattle.std.specs.FinMap.{FinMap, contains_key, entries, from_entries, get, len}
 use Rattle.voxel_block.specs.declared.key.BlockKey.{BlockKey}
 use Rattle.voxel_block.specs.declared.voxel.Voxel.{Voxel}
 use Rattle.voxel_block.specs.Keys.{key_cmp}

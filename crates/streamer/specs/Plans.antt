@@ -1,5 +1,5 @@
 -- Which blocks move for a frame, and which stay.
-use Rattle.std.specs.Prelude.{◌≡◌, ℕ, ◌+◌, ◌≤◌, ◌<◌, ◌&&◌, not, Bool, List, length, ⊤}
+use Rattle.std.specs.Prelude.{◌≡◌, ℕ, ◌+◌, ◌<◌, ◌&&◌, not, List, length, ⊤}
 use Rattle.std.specs.List.{count_by, filter}
 use Rattle.std.specs.FinMap.{contains_key, keys}
 use Rattle.fixed_geom.specs.Poses.{Pose}

@@ -7,3 +7,6 @@ mod table;
 
 pub use plan::{Plan, PlanError, plan_frame};
 pub use rest::Rest;
+
+#[cfg(test)]
+mod tests;

@@ -43,7 +43,10 @@ pub enum PlanError {
 impl fmt::Display for PlanError {
     fn fmt<W: fmt::Write>(&self, f: &mut fmt::Formatter<W>) -> fmt::Result {
         match self {
-            PlanError::HeapSpent { need } => write!(f, "{need} blocks would be active, more than the heap has cells"),
+            PlanError::HeapSpent { need } => write!(
+                f,
+                "{need} blocks would be active, more than the heap has cells"
+            ),
             PlanError::NoMemory => write!(f, "out of memory"),
         }
     }

@@ -1,4 +1,4 @@
-use Rattle.std.proofs.Common.{◌+◌, ◌≤◌, ◌&&◌, cond, not, drop, refl, slice_index_or, arith}
+use Rattle.std.proofs.Common.{◌+◌, ◌&&◌, not, drop, refl, slice_index_or}
 use Rattle.voxel_block.specs.declared.key.BlockKey.{BlockKey}
 use Rattle.camera.specs.Cameras.{is_active}
 use Rattle.camera.specs.Visibility.{is_visible}

@@ -1,4 +1,3 @@
-use Rattle.std.proofs.Common.{length, drop}
 use Rattle.streamer.proofs.Sorting.{Sorting}
 use Rattle.streamer.proofs.plan.sort_resident.Given as goal
 

@@ -1,10 +1,9 @@
-use Rattle.std.proofs.Common.{◌≡◌, ◌<◌, ◌||◌, true, length, sym, ap, subst, ◌∙◌}
-use Rattle.std.specs.Prelude.{Some, is_some}
+use Rattle.std.proofs.Common.{◌≡◌, ◌<◌, ◌||◌, length, sym, ap, subst, ◌∙◌}
+use Rattle.std.specs.Prelude.{is_some}
 use Rattle.std.specs.FinMap.{contains_key, insert}
 use Rattle.voxel_block.specs.Keys.{same_key}
 use Rattle.voxel_block.specs.Packing.{voxels_in}
 use Rattle.spatial_hash.specs.Contents.{contents}
-use Rattle.block_heap.specs.Cells.{drawn}
 use Rattle.block_heap.specs.HeapLending.{with_block_at}
 use Rattle.chunk_store.specs.Store.{Stored}
 use Rattle.streamer.specs.Owners.{owner_at}

@@ -1,8 +1,5 @@
-use Rattle.std.proofs.Common.{◌≡◌, ◌+◌, length, ap, subst, ◌∙◌}
-use Rattle.std.specs.Prelude.{IsTrue, Some}
-use Rattle.std.specs.FinMap.{contains_key, insert}
+use Rattle.std.proofs.Common.{◌+◌, length, ap, ◌∙◌}
 use Rattle.chunk_store.specs.Store.{Stored}
-use Rattle.spatial_hash.specs.Contents.{contents}
 use Rattle.streamer.specs.Places.{Places, blocks_of}
 use Rattle.streamer.specs.Seen.{seen}
 use Rattle.streamer.proofs.Moves.{IsLeft, left_blocks, left_placed}

@@ -1,5 +1,5 @@
 use Rattle.std.proofs.Common.{sym, ap, ◌∙◌}
-use Rattle.std.specs.Prelude.{Some, option_map}
+use Rattle.std.specs.Prelude.{Some}
 use Rattle.voxel_block.specs.Blocks.{new_block}
 use Rattle.streamer.specs.Owners.{voxels_of}
 use Rattle.streamer.specs.Places.{Places, cell_of, in_heap}

@@ -1,6 +1,6 @@
-use Rattle.std.proofs.Common.{◌≡◌, true, inr, refl, sym, ap, subst, ◌∙◌}
-use Rattle.std.specs.Prelude.{List, None, Option, Some, is_some, option_map}
-use Rattle.std.specs.FinMap.{contains_key, get, insert}
+use Rattle.std.proofs.Common.{◌≡◌, true, sym, ap, subst, ◌∙◌}
+use Rattle.std.specs.Prelude.{List, option_map}
+use Rattle.std.specs.FinMap.{contains_key, insert}
 use Rattle.std.specs.Option.{ghost_name_of}
 use borrow.Follows.Closed.{read_of}
 use Rattle.voxel_block.specs.declared.voxel.Voxel.{Voxel}

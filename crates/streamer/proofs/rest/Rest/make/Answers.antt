@@ -1,5 +1,4 @@
 use Rattle.std.proofs.Common.{◌≡◌, ◌+◌, ◌*◌, ap}
-use Rattle.std.specs.FinMap.{empty}
 use Rattle.spatial_hash.specs.Table.{Table}
 use Rattle.chunk_store.specs.Store.{Stored}
 use Rattle.streamer.specs.Places.{Places}

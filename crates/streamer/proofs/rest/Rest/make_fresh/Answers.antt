@@ -1,5 +1,4 @@
-use Rattle.std.proofs.Common.{◌≡◌, ◌<◌, ◌||◌, false, length, refl, sym, ap, subst, ◌∙◌}
-use Rattle.std.specs.Prelude.{None}
+use Rattle.std.proofs.Common.{◌≡◌, ◌<◌, ◌||◌, length, refl, sym, ap, subst, ◌∙◌}
 use Rattle.std.specs.FinMap.{contains_key, insert}
 use Rattle.voxel_block.specs.Blocks.{new_block}
 use Rattle.voxel_block.specs.Keys.{same_key}

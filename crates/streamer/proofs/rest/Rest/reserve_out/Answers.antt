@@ -1,4 +1,3 @@
-use Rattle.std.proofs.Common.{ap, sym}
 use Rattle.streamer.specs.Seen.{seen}
 use Rattle.streamer.proofs.Moves.{same_places}
 use Rattle.streamer.proofs.rest.Rest.reserve_out.Goals as goal

@@ -1,4 +1,4 @@
-use Rattle.std.proofs.Common.{◌≡◌, sym, ap, subst, ◌∙◌}
+use Rattle.std.proofs.Common.{◌≡◌, sym, ap, ◌∙◌}
 use Rattle.std.specs.Prelude.{Ok, Some, is_some}
 use Rattle.std.specs.Result.{is_ok}
 use Rattle.std.specs.FinMap.{contains_key, get}

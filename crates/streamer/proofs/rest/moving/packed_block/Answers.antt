@@ -1,8 +1,7 @@
 use Rattle.std.proofs.Common.{◌≡◌, sym, ap, subst, ◌∙◌}
-use Rattle.std.specs.Prelude.{IsSome, Some}
 use Rattle.voxel_block.specs.Blocks.{new_block}
 use Rattle.voxel_block.specs.Packing.{IsBlock, packed as packed_form}
-use Rattle.streamer.specs.Owners.{block_in, owner_at, voxels_of}
+use Rattle.streamer.specs.Owners.{block_in, voxels_of}
 use Rattle.streamer.proofs.Owning.{not_owned, owner_is}
 use Rattle.streamer.proofs.rest.moving.packed_block.Goals as goal
 use Rattle.streamer.proofs.rest.moving.packed_block.Goals.{After-pack_into}
