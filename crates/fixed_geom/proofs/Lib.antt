@@ -1,11 +1,15 @@
 pub mod Decimals
 pub mod Dots
 pub mod Floors
+pub mod Machine
 pub mod Means
 pub mod NearWorlds
 pub mod PoseTests
+pub mod ProductFloors
+pub mod Raised
 pub mod RoundTrip
 pub mod Segments
+pub mod SignedProducts
 pub mod Sizes
 pub mod Spellings
 pub mod Steps

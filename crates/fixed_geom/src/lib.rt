@@ -9,6 +9,7 @@ pub mod laws;
 mod near;
 pub mod pose;
 mod products;
+pub mod quotients;
 mod spelling;
 #[cfg(test)]
 mod tests;
@@ -18,4 +19,5 @@ pub use cam_q30::CamQ30;
 pub use decimal::{BadNumber, read_decimal};
 pub use division::{floor_div, floor_div_from, round_div};
 pub use pose::{BadPose, Pose, PoseRows};
+pub use quotients::{quotient, reciprocal};
 pub use vector::Vec3;

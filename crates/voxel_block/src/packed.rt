@@ -1,7 +1,8 @@
-ghost use Rattle.std.specs.Prelude.{◌≡◌, length, IfOk, replicate};
+ghost use Rattle.std.specs.Prelude.{◌≡◌, ◌<◌, Some, length, slice_get, IfOk, replicate};
 ghost use Rattle.std.specs.List.{flat_map};
-ghost use Rattle.voxel_block.specs.Packing.{packed, key_bytes, voxel_bytes, IsBlock, IsKey};
+ghost use Rattle.voxel_block.specs.Packing.{packed, key_bytes, voxel_bytes, voxels_in, IsBlock, IsKey};
 
+use crate::unpack::voxel_at;
 use crate::{Block, BlockKey, NoMemory, Voxel};
 use byteorder::{BigEndian, ByteOrder};
 use std::alloc::Global;
@@ -43,6 +44,15 @@ impl Packed {
         ensures len { length self.now ≡ 1542 }
     {
         self.bytes.as_slice()
+    }
+
+    /// The voxel of this index, as the bytes state it.
+    pub fn get(&self, i: u16) -> Voxel
+        requires { i < 512 }
+        ensures value { slice_get (voxels_in self.now) i ≡ Some result }
+        ensures count { length (voxels_in self.now) ≡ 512 }
+    {
+        voxel_at(self.bytes(), i)
     }
 
     /// Replaces the bytes.

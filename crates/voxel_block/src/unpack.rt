@@ -57,7 +57,7 @@ fn key_of(bytes: &[u8]) -> BlockKey
 }
 
 // The voxel of this index that the bytes state.
-fn voxel_at(bytes: &[u8], i: u16) -> Voxel
+pub(crate) fn voxel_at(bytes: &[u8], i: u16) -> Voxel
     requires len { length bytes.now ≡ 1542 }
     requires index { i < 512 }
     ensures { slice_get (voxels_in bytes.now) i ≡ Some result }
