@@ -8,6 +8,7 @@ use Rattle.fusion_core.specs.declared.refusal.Refusal.{Refusal}
 use Rattle.fusion_core.specs.declared.refusal.Refusal.TheVariants as refusals
 use Rattle.fusion_core.specs.Fold.{State}
 use Rattle.scan_lang.specs.Config.{Config}
+use Rattle.session.specs.declared.fused_map.FusedMap.{FusedMap}
 use Rattle.session.specs.declared.room.Ready.{Ready}
 use Rattle.session.specs.declared.error.FrameError.{FrameError}
 use Rattle.session.specs.declared.error.FrameError.TheVariants as errors
@@ -19,6 +20,10 @@ pub record SessionView : Type 0 where
   pub places : Places
   pub frames : ℕ
   pub last : Option Pose
+
+-- the session of a configuration and what was fused
+abbrev pub session_of : Config → FusedMap → SessionView
+session_of c m = record { config = c; places = m.rest; frames = m.frames; last = m.last }
 
 -- its state: the map has each known key's block, wherever it lies
 abbrev pub state_of : SessionView → State

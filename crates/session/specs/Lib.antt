@@ -3,7 +3,6 @@ pub mod Codes
 pub mod Fold
 pub mod Output
 pub mod Rooms
-pub mod SessionView
 pub mod Standing
 pub mod Sums
 pub mod Updating

@@ -25,7 +25,7 @@ Cells = FinMap key_cmp ℕ
 abbrev pub Touches : Cells → List BlockKey → Cells → Type 0
 Touches h ks t = (b : BlockKey) → contains_key t b ≡ (contains_key h b || list_any (same_key b) ks)
 
--- so many of these keys there are that they fill a number of nodes
+-- keys of a table and of a list that number at least as many as the nodes
 pub record IsSpent (h : Cells) (ks : List BlockKey) (nodes : ℕ) : Type 0 where
   pub keys : Cells
   pub many : nodes ≤ len keys

@@ -2,10 +2,12 @@
 #![tactic(auto)]
 
 mod error;
+mod fused_map;
 mod fusing;
 mod known;
 mod moving;
 mod room;
+mod scratch;
 mod session;
 mod totals;
 mod touching;

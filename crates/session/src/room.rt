@@ -1,5 +1,5 @@
-ghost use Rattle.std.specs.Prelude.{◌≡◌, ◌≤◌, ◌*◌, ◌+◌, IfOk, length};
-ghost use Rattle.std.specs.Int.{IsPowerOfTwo};
+ghost use Rattle.std.specs.Prelude.{◌≡◌, ℕ, ◌*◌, ◌+◌, Err, IfOk, length};
+ghost use Rattle.spatial_hash.specs.Table.{KeepsSize};
 ghost use Rattle.streamer.specs.Places.{blocks_of};
 ghost use Rattle.fusion_core.specs.Frames.{IsFrame};
 ghost use Rattle.fusion_core.specs.Maps.{need};
@@ -7,8 +7,9 @@ ghost use Rattle.session.specs.Answers.{AnswersRoom, need_in, resident_of};
 ghost use Rattle.session.specs.Rooms.{IsFramePlan, IsReady, StaysPut};
 
 use crate::error::FrameError;
-use crate::touching::{TouchError, touched_table};
+use crate::touching::touch_keys;
 use fusion_core::Frame;
+use spatial_hash::{Full, HashTable};
 use std::alloc::Global;
 use streamer::{Plan, PlanError, Rest, plan_frame};
 use voxel_block::{NoMemory, Packed};
@@ -24,25 +25,25 @@ pub struct Ready {
 
 /// Plans a frame and takes the memory that its moves need. No block moves.
 ///
-/// The table of touched keys has this number of buckets. Where more than `limit` blocks would be active the frame is
-/// refused.
+/// `touched` becomes the table of touched keys. Where more than `limit` blocks would be active the frame is refused.
 pub fn make_room(
     alloc: Global,
     rest: &mut Rest,
+    touched: &mut HashTable,
     frame: &Frame,
-    buckets: u32,
     limit: u32,
 ) -> Result<Ready, FrameError>
     requires frame { IsFrame frame.now }
-    requires power { IsPowerOfTwo buckets }
-    requires buckets { buckets ≤ 65536 }
-    requires most { limit ≤ 65536 }
     requires limit { limit ≡ length rest.old.heap.cells }
+    requires nodes { rest.old.table.nodes ≡ 2 * limit + 65 }
+    requires size { KeepsSize rest.old.table touched.old }
     ensures room { AnswersRoom limit (need (blocks_of rest.old) frame.now) (resident_of result) }
     ensures ready { IfOk result (IsReady frame.now rest.new) }
     ensures kept { StaysPut rest.old rest.new }
+    ensures spent { (n : ℕ) → result ≡ Err (FrameError.HeapSpent n) → rest.new ≡ rest.old }
+    ensures size { KeepsSize touched.old touched.new }
 {
-    let plan = plan_within(alloc, rest, frame, buckets, limit)?;
+    let plan = plan_within(alloc, rest, touched, frame, limit)?;
     let packs = make_packs(alloc, plan.leave.len())?;
     rest.reserve_out(alloc, &plan.leave)?;
     Ok(Ready { plan, packs })
@@ -52,31 +53,30 @@ pub fn make_room(
 fn plan_within(
     alloc: Global,
     rest: &Rest,
+    touched: &mut HashTable,
     frame: &Frame,
-    buckets: u32,
     limit: u32,
 ) -> Result<Plan, FrameError>
     requires frame { IsFrame frame.now }
-    requires power { IsPowerOfTwo buckets }
-    requires buckets { buckets ≤ 65536 }
-    requires most { limit ≤ 65536 }
     requires limit { limit ≡ length rest.now.heap.cells }
+    requires nodes { rest.now.table.nodes ≡ 2 * limit + 65 }
+    requires size { KeepsSize rest.now.table touched.old }
     ensures room { AnswersRoom limit (need (blocks_of rest.now) frame.now) (need_in result) }
     ensures plan { IfOk result (IsFramePlan frame.now rest.now) }
+    ensures size { KeepsSize touched.old touched.new }
 {
-    let touched = match touched_table(alloc, rest.hash(), frame, buckets, limit) {
-        Ok(touched) => touched,
-        Err(TouchError::Full) => return Err(FrameError::HeapSpent { limit }),
-        Err(TouchError::NoMemory) => return Err(FrameError::NoMemory),
-    };
-    match plan_frame(alloc, rest, &touched, frame.camera(), &frame.pose()) {
+    match touch_keys(touched, rest.hash(), frame) {
+        Ok(()) => {}
+        Err(Full) => return Err(FrameError::HeapSpent { limit }),
+    }
+    match plan_frame(alloc, rest, touched, frame.camera(), &frame.pose()) {
         Ok(plan) => Ok(plan),
         Err(PlanError::HeapSpent { .. }) => Err(FrameError::HeapSpent { limit }),
         Err(PlanError::NoMemory) => Err(FrameError::NoMemory),
     }
 }
 
-/// The memory of so many packed forms.
+/// `count` packed forms, each to be written.
 fn make_packs(alloc: Global, count: usize) -> Result<Vec<Packed>, NoMemory>
     ensures { IfOk result (λ v. length v.items ≡ count) }
 {

@@ -78,6 +78,17 @@ impl HashTable {
         })
     }
 
+    /// Makes the table a copy of another one of the same size. Takes no memory.
+    pub fn copy_from(&mut self, other: &HashTable)
+        requires buckets { self.old.buckets ≡ other.now.buckets }
+        requires nodes { self.old.nodes ≡ other.now.nodes }
+        ensures { self.new ≡ other.now }
+    {
+        self.linked = other.linked;
+        self.words.copy_from_slice(&other.words);
+        self.cells.copy_from_slice(&other.cells);
+    }
+
     /// The entry of a key. `None` where the table does not have the key.
     #[tactic(auto, unfolding(crate::specs::Walk::entry_of))]
     pub fn find(&self, key: BlockKey) -> Option<u32>

@@ -1,4 +1,4 @@
-use crate::touching::touched_table;
+use crate::touching::touch_keys;
 use camera::{Camera, CameraFields};
 use depth_frame::DepthFrame;
 use fixed_geom::{PoseRows, Vec3};
@@ -45,8 +45,9 @@ fn frame(alloc: Global, sample: u16) -> Option<Frame> {
 // How many blocks the band of a wall has, and how many of the blocks (0, 0, z) are among them.
 fn count(alloc: Global, sample: u16, expected: &[i16]) -> Option<(usize, usize)> {
     let frame = frame(alloc, sample)?;
-    let hash = HashTable::make(alloc, 1, 1).ok()?;
-    let touched = touched_table(alloc, &hash, &frame, 1, 1).ok()?;
+    let hash = HashTable::make(alloc, 1, 67).ok()?;
+    let mut touched = HashTable::make(alloc, 1, 67).ok()?;
+    touch_keys(&mut touched, &hash, &frame).ok()?;
     let mut found = 0_usize;
     for z in expected {
         if touched.find(BlockKey { x: 0, y: 0, z: *z }).is_some() {

@@ -12,7 +12,7 @@ returns-in_err-touch_row-clause-full c =
     let v = c.loop-v.v in
     let low : v < c.args.frame.now.depths.height = (let end = c.height-v-end.ensures in let t = c.loop-v-test.true in omega (arith, end, t)) in
     let step = rows_from (row_blocks w) v c.args.frame.now.depths.height low in
-    on_err _ c.from_residual.result (subst (λ n. IsSpent (contents c.args.table.now) (band w) n) c.loop-v.invariant.nodes
+    on_err _ c.from_residual.result (subst (λ n. IsSpent (contents c.args.table.now) (band w) n) c.loop-v.invariant.size.nodes
     (remaining_spent (contents c.args.table.now) (band w) (contents c.loop-v.table) (row_blocks w v) _ _ c.loop-v.table.nodes step c.in_err-touch_row.ensures.full c.loop-v.invariant.left))
 
 pub loop-v-preserved : goal.loop-v-preserved
@@ -23,5 +23,5 @@ loop-v-preserved c =
     let step = rows_from (row_blocks w) v c.args.frame.now.depths.height low in
     record {
       left = remaining_next (contents c.args.table.now) (band w) (contents c.loop-v.table) (contents c.touch_row.new.table) (row_blocks w v) _ _ step c.in_ok-touch_row.ensures.ok c.loop-v.invariant.left;
-      nodes = c.touch_row.ensures.nodes ∙ c.loop-v.invariant.nodes;
+      size = record { buckets = c.touch_row.ensures.size.buckets ∙ c.loop-v.invariant.size.buckets; nodes = c.touch_row.ensures.size.nodes ∙ c.loop-v.invariant.size.nodes };
     }

@@ -1,7 +1,8 @@
-use Rattle.std.proofs.Common.{◌≡◌, ◌-◌}
+use Rattle.std.proofs.Common.{◌-◌}
 use Rattle.std.specs.List.{flat_map, range_with_len}
 use Rattle.band_walk.specs.Bands.{band, row_blocks}
 use Rattle.spatial_hash.specs.Contents.{contents}
+use Rattle.spatial_hash.specs.Table.{KeepsSize}
 use Rattle.fusion_core.specs.Frames.{view}
 use Rattle.session.proofs.TouchedKeys.{Remaining}
 use Rattle.session.proofs.touching.touch_band.Given as goal
@@ -10,5 +11,5 @@ use Rattle.session.proofs.touching.touch_band.Given as goal
 abbrev pub invariant-loop-v : goal.invariant-loop-v
 invariant-loop-v l = record {
   left : Remaining (contents l.fn.table) (band (view l.fn.frame)) (contents l.table) (flat_map (row_blocks (view l.fn.frame)) (range_with_len l.v (l.fn.frame.depths.height - l.v)));
-  nodes : l.table.nodes ≡ l.fn.table.nodes;
+  size : KeepsSize l.fn.table l.table;
 }

@@ -12,7 +12,7 @@ pub loop-key-init : goal.loop-key-init
 loop-key-init c =
     let ks = row_blocks (view c.args.frame.now) c.args.v in
     let is = c.into_iter-key-iterator.ensures.into_iter_gives ∙ c.row-key-items.ensures in
-    record { left = λ b. ap (λ xs. contains_key (contents c.args.table.now) b || list_any (same_key b) xs) is ∙ ap (λ x. contains_key (contents c.args.table.now) b || x) (any_dedup ks b); nodes = refl }
+    record { left = λ b. ap (λ xs. contains_key (contents c.args.table.now) b || list_any (same_key b) xs) is ∙ ap (λ x. contains_key (contents c.args.table.now) b || x) (any_dedup ks b); size = record { buckets = refl; nodes = refl } }
 
 pub loop-key-preserved : goal.loop-key-preserved
 loop-key-preserved c =
@@ -20,7 +20,7 @@ loop-key-preserved c =
     let ks = row_blocks (view c.args.frame.now) c.args.v in
     record {
       left = remaining_next h ks (contents c.loop-key.table) (contents c.touch.new.table) (c.in-Some.key ∷ []) _ c.next.new.self c.in-Some.ensures.steps c.in_ok-touch.ensures.ok c.loop-key.invariant.left;
-      nodes = c.touch.ensures.nodes ∙ c.loop-key.invariant.nodes;
+      size = record { buckets = c.touch.ensures.size.buckets ∙ c.loop-key.invariant.size.buckets; nodes = c.touch.ensures.size.nodes ∙ c.loop-key.invariant.size.nodes };
     }
 
 pub returns-in_err-touch-clause-full : goal.returns-in_err-touch-clause-full
@@ -28,5 +28,5 @@ returns-in_err-touch-clause-full c =
     let h = contents c.args.table.now in
     let ks = row_blocks (view c.args.frame.now) c.args.v in
     let full = c.in_err-touch.ensures.full in
-    let same = c.loop-key.invariant.nodes in
+    let same = c.loop-key.invariant.size.nodes in
     on_err _ c.from_residual.result (remaining_full h ks (contents c.loop-key.table) _ c.args.table.now.nodes (omega (arith, full, same)) c.loop-key.invariant.left)

@@ -1,0 +1,7 @@
+use Rattle.std.proofs.Common.{sym, subst}
+use Rattle.std.specs.Int.{IsPowerOfTwo}
+use Rattle.session.proofs.Powers.{is_power}
+use Rattle.session.proofs.scratch.Scratch.make.Goals as goal
+
+pub make-requires-clause-power : goal.make-requires-clause-power
+make-requires-clause-power c = subst IsPowerOfTwo (sym c.buckets-buckets.ensures.value) (is_power c.args.config.now.buckets c.buckets-buckets.ensures.config.buckets_power)

@@ -1,0 +1,151 @@
+//! The calls of a session, over its parts.
+ghost use Rattle.std.specs.Prelude.{◌≡◌, ◌≢◌, ◌≤◌, ◌+◌, ◌*◌, Err, IfOk, OnErr, OnOk, true, false};
+ghost use Rattle.std.specs.FinMap.{empty, len};
+ghost use Rattle.std.specs.FinSet.{empty as no_chunks};
+ghost use Rattle.fixed_geom.specs.PoseTest.{accepted, pose_of};
+ghost use Rattle.spatial_hash.specs.Table.{empty_table};
+ghost use Rattle.block_heap.specs.Cells.{new_cells};
+ghost use Rattle.scan_io.specs.Reading.{UnlessOutOfMemory};
+ghost use Rattle.fusion_core.specs.Fold.{start as first_state, has_size};
+ghost use Rattle.scan_lang.specs.declared.entry.Entry.TheVariants as entries;
+ghost use Rattle.session.specs.Answers.{frame_cause, session_of, state_of};
+ghost use Rattle.session.specs.Fold.{after, frame_answer, known_voxels as known_voxels_of, place_in, settings_of, totals_of};
+ghost use Rattle.session.specs.Rooms.{StaysPut};
+ghost use Rattle.session.specs.Standing.{HasSizeOf, IsSettled, Stands};
+
+use crate::error::{FrameError, ReadError};
+use crate::fusing::fuse;
+use crate::known::known_voxels;
+use crate::room::make_room;
+use crate::scratch::Scratch;
+use crate::totals::totals;
+use depth_frame::DepthFrame;
+use fixed_geom::{BadPose, Pose, PoseRows};
+use fusion_core::{Frame, Settings};
+use scan_lang::{Config, FrameDone, KnownVoxel, Place, Totals};
+use std::alloc::Global;
+use streamer::Rest;
+use voxel_block::{BlockKey, NoMemory};
+
+/// The map of the frames so far, their number, and the pose of the last one.
+#[derive(Drop)]
+pub struct FusedMap {
+    pub rest: Rest,
+    pub frames: u64,
+    pub last: Option<Pose>,
+}
+
+/// The empty map, before the first frame, and what its frames work with.
+pub fn first_map(alloc: Global, config: &Config) -> Result<(FusedMap, Scratch), NoMemory>
+    ensures state { IfOk result (λ p. state_of (session_of config.now p.0) ≡ first_state) }
+    ensures places { IfOk result (λ p. p.0.rest ≡ record { table = empty_table config.now.buckets (2 * config.now.heap_blocks + 65); heap = new_cells config.now.heap_blocks; store = record { contents = empty; opened = no_chunks } }) }
+    ensures settled { IfOk result (λ p. IsSettled (session_of config.now p.0)) }
+    ensures stands { IfOk result (λ p. Stands (session_of config.now p.0)) }
+    ensures scratch { IfOk result (λ p. HasSizeOf config.now p.1.touched) }
+{
+    let scratch = Scratch::make(alloc, config)?;
+    let rest = Rest::make(alloc, config.heap_blocks(), config.buckets())?;
+    let map = FusedMap {
+        rest,
+        frames: 0,
+        last: None,
+    };
+    Ok((map, scratch))
+}
+
+/// Fuses a frame into the map. It is refused where its sides are not the configuration's, then where its rows are no
+/// pose, then where more blocks of the map and of its band would be active for it than the configuration allows.
+pub fn fuse_frame(
+    alloc: Global,
+    config: &Config,
+    map: &mut FusedMap,
+    scratch: &mut Scratch,
+    rows: &PoseRows,
+    depths: DepthFrame,
+) -> Result<FrameDone, FrameError>
+    requires settled { IsSettled (session_of config.now map.old) }
+    requires scratch { HasSizeOf config.now scratch.old.touched }
+    ensures answer { UnlessOutOfMemory frame_cause (λ done. done) result (frame_answer config.now (state_of (session_of config.now map.old)) rows.now depths) }
+    ensures state { OnOk result (state_of (session_of config.now map.new) ≡ after config.now (state_of (session_of config.now map.old)) (entries.Frame rows.now depths)) }
+    ensures stands { Stands (session_of config.now map.new) }
+    ensures settled { IsSettled (session_of config.now map.new) }
+    ensures scratch { HasSizeOf config.now scratch.new.touched }
+    ensures places { OnErr result (StaysPut map.old.rest map.new.rest) }
+    ensures refused { (why : FrameError) → result ≡ Err why → why ≢ FrameError.NoMemory → map.new.rest ≡ map.old.rest }
+    ensures frames { OnErr result (map.new.frames ≡ map.old.frames) }
+    ensures last { OnErr result (map.new.last ≡ map.old.last) }
+    ensures kept { OnErr result (state_of (session_of config.now map.new) ≡ state_of (session_of config.now map.old)) }
+    ensures size { has_size config.now.camera depths ≡ false → result ≡ Err (FrameError.Size depths.width depths.height) }
+    ensures pose { has_size config.now.camera depths ≡ true → (why : BadPose) → accepted (pose_of rows.now) ≡ Err why → result ≡ Err (FrameError.BadPose why) }
+{
+    let frame = Frame::offered(&settings(config), rows, depths)?;
+    let ready = make_room(
+        alloc,
+        &mut map.rest,
+        &mut scratch.touched,
+        &frame,
+        config.heap_blocks(),
+    )?;
+    let resident = ready.plan.need as u32;
+    fuse(&mut map.rest, &frame, ready);
+    map.frames = map.frames.saturating_add(1);
+    map.last = Some(frame.pose());
+    Ok(FrameDone {
+        frame: map.frames,
+        blocks: map.rest.len(),
+        resident,
+    })
+}
+
+/// The number of blocks, and all known voxels in the order of keys and indices.
+pub fn read_voxels(
+    alloc: Global,
+    config: &Config,
+    map: &FusedMap,
+) -> Result<(u64, Vec<KnownVoxel>), ReadError>
+    requires { IsSettled (session_of config.now map.now) }
+    ensures blocks { IfOk result (λ p. p.0 ≡ len (state_of (session_of config.now map.now)).blocks) }
+    ensures known { IfOk result (λ p. p.1.items ≡ known_voxels_of (state_of (session_of config.now map.now)).blocks) }
+    ensures stands { Stands (session_of config.now map.now) }
+{
+    let known = known_voxels(alloc, &map.rest)?;
+    Ok((map.rest.len(), known))
+}
+
+/// Totals over the map.
+pub fn read_totals(alloc: Global, config: &Config, map: &FusedMap) -> Result<Totals, ReadError>
+    requires { IsSettled (session_of config.now map.now) }
+    ensures value { IfOk result (λ t. t ≡ totals_of (state_of (session_of config.now map.now)).blocks) }
+    ensures stands { Stands (session_of config.now map.now) }
+{
+    let totals = totals(alloc, &map.rest)?;
+    Ok(totals)
+}
+
+/// Where the block of a key lies.
+pub fn find_place(config: &Config, map: &FusedMap, key: BlockKey) -> Place
+    requires { IsSettled (session_of config.now map.now) }
+    ensures place { result ≡ place_in config.now (state_of (session_of config.now map.now)) key }
+    ensures stands { Stands (session_of config.now map.now) }
+{
+    if map.rest.is_resident(key) {
+        Place::Heap
+    } else if map.rest.is_stored(key) {
+        Place::Store
+    } else {
+        Place::Nowhere
+    }
+}
+
+/// What a configuration has frames judged and fused by.
+fn settings(config: &Config) -> Settings
+    ensures value { result ≡ settings_of config.now }
+    ensures weight { 1 ≤ result.max_weight }
+{
+    Settings {
+        version: config.version(),
+        camera: *config.camera(),
+        max_weight: config.max_weight(),
+        heap_blocks: config.heap_blocks(),
+    }
+}
