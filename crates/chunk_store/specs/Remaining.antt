@@ -1,0 +1,18 @@
+-- What remains of a walk over the blocks of a store.
+use Rattle.std.specs.Prelude.{ℕ, List, Option}
+use Rattle.std.specs.Borrow.{Bor}
+use Rattle.std.specs.Slice.Iter.{Iter, iter_rest}
+use Rattle.voxel_block.specs.declared.key.BlockKey.{BlockKey}
+use Rattle.chunk_store.specs.Rows.{Held, held_in}
+
+-- a contract sees a walk as the list of its remaining blocks
+abbrev pub remaining_blocks : List Held → List Held
+remaining_blocks blocks = blocks
+
+-- the key and the packed bytes that an item lends
+abbrev pub entry_of : BlockKey × Bor (List ℕ) → Held
+entry_of p = (p.0, p.1.now)
+
+-- what the remaining places of a row hold
+abbrev pub remaining_in : Iter (Option Held) → List Held
+remaining_in places = held_in (iter_rest places)
