@@ -4,6 +4,7 @@ pub mod Contents
 pub mod Counts
 pub mod Bounds
 pub mod Changes
+pub mod Folding
 pub mod Listing
 pub mod Skipping
 pub mod Stores

@@ -1,7 +1,8 @@
 -- What remains of a walk over the blocks of a store.
 use Rattle.std.specs.Prelude.{ℕ, List, Option}
 use Rattle.std.specs.Borrow.{Bor}
-use Rattle.std.specs.Slice.Iter.{Iter, iter_rest}
+use Rattle.std.specs.declared.slice.Iter.{Iter}
+use Rattle.std.specs.Slice.Iter.{iter_rest}
 use Rattle.voxel_block.specs.declared.key.BlockKey.{BlockKey}
 use Rattle.chunk_store.specs.Rows.{Held, held_in}
 

@@ -33,7 +33,7 @@ impl<'a> Blocks<'a> {
 
     // The blocks of these rows.
     pub(crate) fn of(rows: map::Iter<'a, ChunkKey, Row>) -> Blocks<'a>
-        ensures { remaining_blocks result ≡ held_of rows }
+        ensures { remaining_blocks result ≡ held_of rows.entry }
     {
         Blocks {
             places: [].iter(),

@@ -119,7 +119,7 @@ impl Session {
         ensures kept { self.new ≡ self.old }
         ensures stands { Stands self.new }
     {
-        let totals = totals(alloc, &self.rest)?;
+        let totals = totals(&self.rest);
         Ok(totals)
     }
 
