@@ -8,4 +8,5 @@ pub mod Folding
 pub mod Listing
 pub mod Skipping
 pub mod Stores
+pub mod Walks
 pub mod Words
