@@ -40,10 +40,10 @@ later : (c : Cell) (cells : List Cell) → AreApart (c ∷ cells) → AreApart c
 later c cells a k i j v w e g = let s : suc i ≡ suc j = a k (suc i) (suc j) v w e g in omega arith
 
 find_absent : (cells : List Cell) (q : BlockKey) → ((i : ℕ) (v : List Voxel) → owner_in cells i ≡ Some (q, v) → ⊥) → find key_cmp q (owned_blocks cells) ≡ None
-find_absent [] q no = refl
-find_absent (Free b ∷ cells) q no = find_absent cells q (λ i v e. no (suc i) v e)
-find_absent (Owned k b ∷ cells) q no =
-    cond-false (same_key q k) _ _ (other_key q k (λ e. no 0 b (ap (λ (x : BlockKey). Some (x, b)) (sym e)))) ∙ find_absent cells q (λ i v e. no (suc i) v e)
+find_absent [] q never = refl
+find_absent (Free b ∷ cells) q never = find_absent cells q (λ i v e. never (suc i) v e)
+find_absent (Owned k b ∷ cells) q never =
+    cond-false (same_key q k) _ _ (other_key q k (λ e. never 0 b (ap (λ (x : BlockKey). Some (x, b)) (sym e)))) ∙ find_absent cells q (λ i v e. never (suc i) v e)
 
 find_owner : (cells : List Cell) (q : BlockKey) (n : ℕ) (v : List Voxel) → AreApart cells → owner_in cells n ≡ Some (q, v) → find key_cmp q (owned_blocks cells) ≡ Some v
 find_owner [] q n v a e = absurd (cc)
