@@ -3,8 +3,5 @@ use Rattle.session.specs.Standing.{IsSettled}
 use Rattle.session.proofs.StandingLemmas.{stands}
 use Rattle.session.proofs.session.Session.totals.Goals as goal
 
-pub returns-in_err-totals-clause-stands : goal.returns-in_err-totals-clause-stands
-returns-in_err-totals-clause-stands c = stands c.args.self.now (subst IsSettled c.self.view_is c.self.invariant)
-
 pub returns-clause-stands : goal.returns-clause-stands
 returns-clause-stands c = stands c.args.self.now (subst IsSettled c.self.view_is c.self.invariant)
