@@ -1,3 +1,4 @@
+pub mod AllBlocks
 pub mod Axes
 pub mod ChunkLaws
 pub mod Contents
@@ -8,5 +9,4 @@ pub mod Folding
 pub mod Listing
 pub mod Skipping
 pub mod Stores
-pub mod Walks
 pub mod Words

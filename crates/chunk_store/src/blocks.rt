@@ -1,5 +1,5 @@
 ghost use Rattle.std.specs.Iterator.{YieldsFirstBy, item_count};
-ghost use Rattle.chunk_store.specs.Remaining.{entry_of, remaining_blocks, remaining_in};
+ghost use Rattle.chunk_store.specs.Remaining.{keyed_bytes, remaining_blocks, remaining_in};
 
 use crate::row::Row;
 use indexmap::map;
@@ -45,7 +45,7 @@ impl<'a> Blocks<'a> {
 impl<'a> Iterator for Blocks<'a> {
     type Item = (BlockKey, &'a Packed);
 
-    ghost next_gives = { YieldsFirstBy entry_of remaining_blocks };
+    ghost next_gives = { YieldsFirstBy keyed_bytes remaining_blocks };
 
     ghost remaining = { item_count remaining_blocks };
 
@@ -65,7 +65,7 @@ impl<'a> Iterator for Blocks<'a> {
 fn next_held<'a>(
     places: &mut slice::Iter<'a, Option<(BlockKey, Packed)>>,
 ) -> Option<(BlockKey, &'a Packed)>
-    ensures { YieldsFirstBy entry_of remaining_in places.old result places.new }
+    ensures { YieldsFirstBy keyed_bytes remaining_in places.old result places.new }
 {
     loop {
         if let Some((key, packed)) = places.next()? {
