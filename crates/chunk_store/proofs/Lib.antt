@@ -1,9 +1,11 @@
+pub mod AllBlocks
 pub mod Axes
 pub mod ChunkLaws
 pub mod Contents
 pub mod Counts
 pub mod Bounds
 pub mod Changes
+pub mod Folding
 pub mod Listing
 pub mod Skipping
 pub mod Stores

@@ -35,7 +35,7 @@ use Rattle.chunk_store.proofs.ChunkLaws.{chunk_decides}
 or_both : (a b : Bool) → a ≡ false → b ≡ false → (a || b) ≡ false
 or_both a b p q = ap (λ x. x || b) p ∙ q
 
-no_other : (k : BlockKey) (ks : List BlockKey) → list_any (same_key k) ks ≡ false → AllByRecursion (λ y. same_key k y ≡ false) ks
+pub no_other : (k : BlockKey) (ks : List BlockKey) → list_any (same_key k) ks ≡ false → AllByRecursion (λ y. same_key k y ≡ false) ks
 no_other k [] h = tt
 no_other k (y ∷ ys) h = let p = or_parts (same_key k y) (list_any (same_key k) ys) h in (p.0, no_other k ys p.1)
 
@@ -56,7 +56,7 @@ row_apart c n (Some h ∷ row) rest s d others =
     (no_other h.0 _ (any_both (same_key h.0) (keys_of (held_in row)) rest none (others h.0 k.chunk)))
     (row_apart c (suc n) row rest (further c n (Some h) row s) d others)
 
-all_apart : (es : Rows) → IsDistinct chunk_eq (keys_of es) → AreRows es → IsDistinct same_key (all_keys es)
+pub all_apart : (es : Rows) → IsDistinct chunk_eq (keys_of es) → AreRows es → IsDistinct same_key (all_keys es)
 unfolding IsDistinct
 all_apart [] d r = tt
 all_apart (e ∷ es) d r =

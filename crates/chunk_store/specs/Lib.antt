@@ -1,4 +1,5 @@
 pub mod Changes
 pub mod Codes
+pub mod Remaining
 pub mod Rows
 pub mod Store

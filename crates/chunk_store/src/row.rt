@@ -1,4 +1,5 @@
 ghost use Rattle.std.specs.Prelude.{◌≡◌, ◌<◌, ◌++◌, None, Some, filter, option_map, IfOk, OnOk, length, replicate, slice_set};
+ghost use Rattle.std.specs.Slice.Iter.{iter_rest};
 ghost use Rattle.camera.specs.Cameras.{is_active};
 ghost use Rattle.chunk_store.specs.Rows.{IsRow, held_at, keys_in};
 
@@ -6,6 +7,7 @@ use camera::Camera;
 use fixed_geom::Pose;
 use std::alloc::{AllocError, Global};
 use std::marker::Model;
+use std::slice;
 use voxel_block::{BlockKey, ChunkKey, Packed};
 
 /// The number of blocks in a chunk.
@@ -77,6 +79,13 @@ impl Row {
     {
         let (_, packed) = self.places[place].as_ref()?;
         Some(packed)
+    }
+
+    // The places, in order.
+    pub(crate) fn places(&self) -> slice::Iter<'_, Option<(BlockKey, Packed)>>
+        ensures { iter_rest result ≡ self.now }
+    {
+        self.places.iter()
     }
 
     // Adds the keys of the row's blocks.

@@ -1,10 +1,15 @@
-ghost use Rattle.std.specs.Prelude.{◌≡◌, ◌^◌, ◌≤◌, false, filter, IfOk, IfSome, IsTrue, OnErr, OnOk, option_map};
-ghost use Rattle.std.specs.FinMap.{contains_key, empty as no_blocks, get, insert, keys, len, remove};
+ghost use Rattle.std.specs.Prelude.{◌≡◌, ◌^◌, ◌≤◌, false, filter, IfOk, IfSome, IsTrue, OnErr, OnOk, length, option_map};
+ghost use Rattle.std.specs.FinMap.{contains_key, empty as no_blocks, from_entries, get, insert, keys, len, remove};
+ghost use Rattle.std.specs.List.{IsDistinct};
+ghost use Rattle.std.specs.Map.{keys_of};
 ghost use Rattle.std.specs.FinSet.{contains, empty as no_chunks, insert as with_chunk, is_subset};
 ghost use Rattle.voxel_block.specs.Chunks.{chunk_of};
+ghost use Rattle.voxel_block.specs.Keys.{same_key};
 ghost use Rattle.camera.specs.Cameras.{is_active};
+ghost use Rattle.chunk_store.specs.Remaining.{remaining_blocks};
 ghost use Rattle.chunk_store.specs.Store.{opened_with};
 
+use crate::blocks::Blocks;
 use crate::row::Row;
 use crate::rows;
 use camera::Camera;
@@ -110,6 +115,15 @@ impl ChunkStore {
         ensures opened { IfSome result (λ _. IsTrue (contains self.now.opened (chunk_of key))) }
     {
         rows::peek(&self.rows, key)
+    }
+
+    /// All blocks, each once, with their keys. They come in no order that callers may rely on. Takes no memory.
+    pub fn blocks(&self) -> Blocks<'_>
+        ensures distinct { IsDistinct same_key (keys_of (remaining_blocks result)) }
+        ensures contents { from_entries (remaining_blocks result) ≡ self.now.contents }
+        ensures bound { length (remaining_blocks result) ≤ 2 ^ 49 }
+    {
+        Blocks::of(self.rows.iter())
     }
 
     /// The keys of all blocks, in order. Takes memory for the keys alone.

@@ -157,3 +157,39 @@ fn active_keys_are_those_that_the_camera_names(rt: HostRuntime) -> Result<(), Fa
     assert!(rt; named < store.len());
     Ok(())
 }
+
+// The first bytes of all blocks that come with this key.
+fn first_of_each(alloc: Global, store: &ChunkStore, key: BlockKey) -> Result<Vec<u8>, Fail> {
+    let mut firsts = Vec::new(alloc);
+    for (given, packed) in store.blocks() {
+        if given == key {
+            firsts.push(packed.bytes()[0])?;
+        }
+    }
+    Ok(firsts)
+}
+
+#[test]
+fn each_block_comes_once(rt: HostRuntime) -> Result<(), Fail> {
+    let mut store = ChunkStore::make(rt.alloc());
+    assert_eq!(rt; store.blocks().count(), 0);
+    // The last three share a chunk, of which the first and the last place are two. Others stay empty.
+    let (first, second, last) = (key(-8, -8, -8), key(-8, -8, -7), key(-1, -1, -1));
+    store.reserve_out(rt.alloc(), &[key(80, 0, 0), key(3, 4, 5), key(-80, 0, 0)])?;
+    assert_eq!(rt; store.blocks().count(), 0);
+    let keys = [key(3, 4, 5), first, second, last];
+    for (key, byte) in keys.iter().zip(1u8..) {
+        put(&mut store, rt.alloc(), *key, byte)?;
+    }
+    assert_eq!(rt; store.blocks().count(), 4);
+    for (key, byte) in keys.iter().zip(1u8..) {
+        assert_eq!(rt;
+            first_of_each(rt.alloc(), &store, *key)?.as_slice(),
+            [byte].as_slice()
+        );
+    }
+    assert!(rt; store.take(second).is_some());
+    assert_eq!(rt; store.blocks().count(), 3);
+    assert!(rt; first_of_each(rt.alloc(), &store, second)?.is_empty());
+    Ok(())
+}

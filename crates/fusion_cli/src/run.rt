@@ -148,7 +148,7 @@ fn act(alloc: Global, session: &mut Session, entry: Entry) -> Result<Reply, Stop
             let (blocks, known) = session.voxels(alloc)?;
             Ok(Reply::Voxels(blocks, VoxelList::make(known)))
         }
-        Entry::Sum => Ok(Reply::Totals(session.totals(alloc)?)),
+        Entry::Sum => Ok(Reply::Totals(session.totals()?)),
         Entry::Place(key) => Ok(Reply::Place(session.place_of(key))),
         Entry::End => Ok(Reply::End),
     }

@@ -1,11 +1,12 @@
 -- Sums over known voxels.
-use Rattle.std.specs.Prelude.{◌+◌, ◌*◌, ◌≤◌, pos, ◌+ℤ◌, unsigned_abs, Option, None, Some, List, []}
+use Rattle.std.specs.Prelude.{ℕ, ◌+◌, ◌*◌, ◌≤◌, pos, ◌+ℤ◌, unsigned_abs, Option, None, Some, List, []}
 use Rattle.std.specs.FinMap.{get}
-use Rattle.std.specs.List.{flat_map}
+use Rattle.std.specs.List.{flat_map, fold}
 use Rattle.scan_lang.specs.declared.reply.KnownVoxel.{KnownVoxel}
 use Rattle.fusion_core.specs.Maps.{BlockMap}
 use Rattle.voxel_block.specs.declared.key.BlockKey.{BlockKey}
 use Rattle.voxel_block.specs.declared.voxel.Voxel.{Voxel}
+use Rattle.voxel_block.specs.Packing.{voxels_in}
 use Rattle.session.specs.Fold.{known_in}
 use Rattle.session.specs.declared.totals.Sums.{Sums}
 
@@ -30,6 +31,14 @@ added s v = record { known = s.known + 1; weight = s.weight + v.w; distance = s.
 abbrev pub added_if : Sums → Option KnownVoxel → Sums
 added_if s None = s
 added_if s (Some v) = added s v
+
+-- the sums with the known voxels of a block
+abbrev pub with_known : Sums → BlockKey × List Voxel → Sums
+with_known s e = fold added s (known_in e.0 e.1)
+
+-- the sums with the known voxels of a packed block
+abbrev pub with_packed_known : Sums → BlockKey × List ℕ → Sums
+with_packed_known s e = fold added s (known_in e.0 (voxels_in e.1))
 
 -- the sums have the sizes that the number of voxels allows
 pub record IsSum (s : Sums) : Type 0 where

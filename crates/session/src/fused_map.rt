@@ -112,14 +112,13 @@ pub fn read_voxels(
     Ok((map.rest.len(), known))
 }
 
-/// Totals over the map.
-pub fn read_totals(alloc: Global, config: &Config, map: &FusedMap) -> Result<Totals, ReadError>
+/// Totals over the map. Takes no memory.
+pub fn read_totals(config: &Config, map: &FusedMap) -> Totals
     requires { IsSettled (session_of config.now map.now) }
-    ensures value { IfOk result (λ t. t ≡ totals_of (state_of (session_of config.now map.now)).blocks) }
+    ensures value { result ≡ totals_of (state_of (session_of config.now map.now)).blocks }
     ensures stands { Stands (session_of config.now map.now) }
 {
-    let totals = totals(alloc, &map.rest)?;
-    Ok(totals)
+    totals(&map.rest)
 }
 
 /// Where the block of a key lies.

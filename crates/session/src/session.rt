@@ -107,16 +107,17 @@ impl Session {
         read_voxels(alloc, &self.config, &self.map)
     }
 
-    /// Totals over the map.
-    pub fn totals(&mut self, alloc: Global) -> Result<Totals, ReadError>
+    /// Totals over the map. They take no memory, and there is no error.
+    pub fn totals(&mut self) -> Result<Totals, ReadError>
         ensures value { IfOk result (λ t. t ≡ totals_of (state_of self.old).blocks) }
+        ensures done { IsOk result }
         ensures config { self.new.config ≡ self.old.config }
         ensures places { self.new.places ≡ self.old.places }
         ensures frames { self.new.frames ≡ self.old.frames }
         ensures last { self.new.last ≡ self.old.last }
         ensures stands { Stands self.new }
     {
-        read_totals(alloc, &self.config, &self.map)
+        Ok(read_totals(&self.config, &self.map))
     }
 
     /// Where the block of a key lies. Takes no memory.

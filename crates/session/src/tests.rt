@@ -151,7 +151,7 @@ fn frames_are_fused_or_refused(rt: HostRuntime) {
             assert_eq!(rt; fuse(alloc, &mut session, wall), Some(first));
             assert_eq!(rt; fuse(alloc, &mut session, second), Some(answer), "{}", name);
             assert_eq!(rt;
-                session.totals(rt.alloc()),
+                session.totals(),
                 Ok(Totals {
                     blocks,
                     known,
@@ -197,7 +197,7 @@ fn blocks_leave_the_heap_and_come_back(rt: HostRuntime) {
             assert_eq!(rt; listed.map(|voxels| voxels.len()), Some(1152));
         }
         assert_eq!(rt;
-            session.totals(rt.alloc()),
+            session.totals(),
             Ok(Totals {
                 blocks: 4,
                 known: 1152,
@@ -220,7 +220,7 @@ fn weights_stop_at_the_greatest(rt: HostRuntime) {
             assert_eq!(rt; fused, Some(done(frame, 2, 2)));
         }
         assert_eq!(rt;
-            session.totals(rt.alloc()),
+            session.totals(),
             Ok(Totals {
                 blocks: 2,
                 known: 576,

@@ -1,15 +1,18 @@
-ghost use Rattle.std.specs.Prelude.{◌≡◌, ◌<◌, ◌≤◌, ◌+◌, ◌^◌, fold, IfOk};
-ghost use Rattle.std.specs.FinMap.{get};
+ghost use Rattle.std.specs.Prelude.{◌≡◌, ◌<◌, ◌≤◌, ◌+◌, ◌^◌, fold};
+ghost use Rattle.std.specs.FinMap.{entries};
+ghost use Rattle.voxel_block.specs.Packing.{voxels_in};
+ghost use Rattle.streamer.specs.Owners.{owned_blocks};
 ghost use Rattle.streamer.specs.Places.{blocks_of};
 ghost use Rattle.scan_io.specs.Reading.{saturated as saturated_of};
 ghost use Rattle.session.specs.Fold.{known_in, known_voxels, totals_of, within_i64 as within_i64_of};
-ghost use Rattle.session.specs.Sums.{IsSum, known_among, known_in_option, nothing, added, added_if};
+ghost use Rattle.session.specs.Sums.{IsSum, nothing, added, added_if, with_known, with_packed_known};
 
 use crate::known::known_at;
+use block_heap::Heap;
+use chunk_store::ChunkStore;
 use scan_lang::{KnownVoxel, Totals};
-use std::alloc::Global;
 use streamer::Rest;
-use voxel_block::{Block, BlockKey, NoMemory};
+use voxel_block::{Block, BlockKey, Packed};
 
 /// Sums over known voxels: their number, their weights and their distances.
 #[derive(Clone, Copy)]
@@ -19,63 +22,56 @@ pub struct Sums {
     pub distance: i128,
 }
 
-/// Totals over a map.
-pub fn totals(alloc: Global, rest: &Rest) -> Result<Totals, NoMemory>
-    ensures { IfOk result (λ t. t ≡ totals_of (blocks_of rest.now)) }
+/// Totals over a map. Takes no memory.
+pub fn totals(rest: &Rest) -> Totals
+    ensures { result ≡ totals_of (blocks_of rest.now) }
 {
-    let sums = sums_over(alloc, rest)?;
-    Ok(Totals {
+    let sums = sums_over(rest);
+    Totals {
         blocks: rest.len(),
         known: saturated(sums.known),
         weight: saturated(sums.weight),
         distance: within_i64(sums.distance),
-    })
+    }
 }
 
-/// The sums over all known voxels of a map.
-///
-/// A stored block is unpacked into a block that is made before the walk.
-fn sums_over(alloc: Global, rest: &Rest) -> Result<Sums, NoMemory>
-    ensures { IfOk result (λ s. s ≡ fold added nothing (known_voxels (blocks_of rest.now))) }
+/// The sums over all known voxels of a map: those in the heap, and then those in the store.
+fn sums_over(rest: &Rest) -> Sums
+    ensures { result ≡ fold added nothing (known_voxels (blocks_of rest.now)) }
 {
-    let keys = rest.keys(alloc)?;
-    let mut scratch = Block::make(alloc)?;
-    Ok(sums_at_keys(rest, &keys, &mut scratch))
+    with_store(sums_in(rest.heap()), rest.store())
 }
 
-/// The sums over the known voxels of the blocks of these keys.
-fn sums_at_keys(rest: &Rest, keys: &[BlockKey], scratch: &mut Block) -> Sums
-    ensures { result ≡ fold added nothing (known_among (blocks_of rest.now) keys.now) }
+/// The sums over the known voxels of the owned cells of a heap, in the order of their numbers.
+fn sums_in(heap: &Heap) -> Sums
+    ensures value { result ≡ fold with_known nothing (owned_blocks heap.now.cells) }
+    ensures sum { IsSum result }
+    ensures few { result.known ≤ 2 ^ 41 }
 {
     let mut sums = Sums {
         known: 0,
         weight: 0,
         distance: 0,
     };
-    for key in keys {
-        sums = with_known(sums, rest, *key, scratch);
+    for cell in 0..heap.cell_count() {
+        if let Some((key, block)) = heap.lend(cell) {
+            sums = with_block(sums, key, block);
+        }
     }
     sums
 }
 
-/// The sums with the known voxels of a key's block, wherever it lies.
-fn with_known(sums: Sums, rest: &Rest, key: BlockKey, scratch: &mut Block) -> Sums
+/// The sums with the known voxels of the blocks of a store. No block is unpacked: each voxel is read where it lies.
+fn with_store(sums: Sums, store: &ChunkStore) -> Sums
     requires sum { IsSum sums }
-    requires few { sums.known < 2 ^ 79 }
-    ensures value { result ≡ fold added sums (known_in_option key (get (blocks_of rest.now) key)) }
-    ensures sum { IsSum result }
-    ensures few { result.known ≤ sums.known + 512 }
+    requires few { sums.known ≤ 2 ^ 41 }
+    ensures { result ≡ fold with_packed_known sums (entries store.now.contents) }
 {
-    match rest.lend(key) {
-        Some(block) => with_block(sums, key, block),
-        None => {
-            if rest.unpack(key, scratch) {
-                with_block(sums, key, scratch)
-            } else {
-                sums
-            }
-        }
+    let mut result = sums;
+    for (key, packed) in store.blocks() {
+        result = with_packed(result, key, packed);
     }
+    result
 }
 
 /// The sums with the known voxels of a block.
@@ -89,6 +85,21 @@ fn with_block(sums: Sums, key: BlockKey, block: &Block) -> Sums
     let mut result = sums;
     for i in 0..512_u16 {
         result = with_voxel(result, known_at(key, i, block.get(i)));
+    }
+    result
+}
+
+/// The sums with the known voxels of a packed block.
+fn with_packed(sums: Sums, key: BlockKey, packed: &Packed) -> Sums
+    requires sum { IsSum sums }
+    requires few { sums.known < 2 ^ 79 }
+    ensures value { result ≡ fold added sums (known_in key (voxels_in packed.now)) }
+    ensures sum { IsSum result }
+    ensures few { result.known ≤ sums.known + 512 }
+{
+    let mut result = sums;
+    for i in 0..512_u16 {
+        result = with_voxel(result, known_at(key, i, packed.get(i)));
     }
     result
 }

@@ -28,7 +28,7 @@ module _ {X Y : Type 0} (g : X → Y) where
         | false ↦ find-made es q
       ]
 
-  get-made : (m : FinMap key_cmp X) (q : BlockKey) → find key_cmp q (made (entries m)) ≡ option_map g (get m q)
+  pub get-made : (m : FinMap key_cmp X) (q : BlockKey) → find key_cmp q (made (entries m)) ≡ option_map g (get m q)
   get-made m q = find-made (entries m) q ∙ ap (option_map g) (sym (get-entries m q))
 
 module _ {X : Type 0} where
@@ -37,7 +37,7 @@ module _ {X : Type 0} where
   or_else None o = o
   or_else (Some x) o = Some x
 
-  find-both : (es fs : List (BlockKey × X)) (q : BlockKey) → find key_cmp q (es ++ fs) ≡ or_else (find key_cmp q es) (find key_cmp q fs)
+  pub find-both : (es fs : List (BlockKey × X)) (q : BlockKey) → find key_cmp q (es ++ fs) ≡ or_else (find key_cmp q es) (find key_cmp q fs)
   find-both [] fs q = refl
   find-both (e ∷ es) fs q =
       elim (eq_by_cmp key_cmp q e.0) as (λ b. cond b (Some e.1) (find key_cmp q (es ++ fs)) ≡ or_else (cond b (Some e.1) (find key_cmp q es)) (find key_cmp q fs)) [
@@ -49,7 +49,7 @@ module _ {X : Type 0} where
   has-both None b = refl
   has-both (Some x) b = refl
 
-still_some : {X Y : Type 0} (f : X → Y) (o : Option X) → is_some (option_map f o) ≡ is_some o
+pub still_some : {X Y : Type 0} (f : X → Y) (o : Option X) → is_some (option_map f o) ≡ is_some o
 still_some f None = refl
 still_some f (Some x) = refl
 

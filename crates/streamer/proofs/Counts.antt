@@ -6,7 +6,7 @@ use Rattle.std.specs.Ordering.{eq_by_cmp, is_eq}
 use Rattle.std.specs.declared.cmp.Ordering.{Ordering}
 use Rattle.std.specs.declared.cmp.Ordering.TheVariants.{Less, Equal, Greater}
 use Rattle.std.specs.FinMap.{FinMap, contains_key, empty, entries, find, from_entries, insert, keys, len, len-empty, len-entries, contains_key-keys, entries-insert, get-entries, get-from_entries}
-use Rattle.std.specs.FinMap.Entries.{by_order, put}
+use Rattle.std.specs.FinMap.Entries.{by_order, is_some-find, put}
 use Rattle.std.proofs.lemmas.List.{length-map, nil_from_length}
 use Rattle.std.proofs.lemmas.List.Sums.{sum_by-append, sum_by-cons}
 use Rattle.std.proofs.lemmas.Map.Keys.{IsDistinct-cons, IsDistinct-head, IsDistinct-IsPermutation, IsDistinct-tail}
@@ -21,6 +21,7 @@ use Rattle.std.specs.List.Sorted.{IsPermutation, IsSorted}
 use Rattle.std.proofs.lemmas.List.Folds.{list_any-append}
 use Rattle.std.proofs.lemmas.List.Sorted.{list_any-IsPermutation}
 use Rattle.chunk_store.proofs.Bounds.{keys_rise}
+use Rattle.chunk_store.proofs.Folding.{first_apart, later_apart, no_entries, none_among}
 use Rattle.chunk_store.proofs.Listing.{in_order, same_list}
 use Rattle.streamer.proofs.Blocks.{has-blocks}
 use Rattle.voxel_block.proofs.DistinctKeys.{distinct_keys}
@@ -29,15 +30,8 @@ use Rattle.streamer.specs.Places.{IsPlaced, Places, blocks_of, resident_blocks, 
 abbrev keys_in : {X : Type 0} → List (BlockKey × X) → List BlockKey
 keys_in es = map (λ e. e.0) es
 
-no_entries : (X : Type 0) → entries (empty {K = BlockKey} {X = X} {R = key_cmp}) ≡ []
-no_entries X = nil_from_length _ (sym (len-entries (empty {K = BlockKey} {X = X} {R = key_cmp})) ∙ len-empty key_cmp X)
-
 count_by-cons : (test : BlockKey → Bool) (x : BlockKey) (xs : List BlockKey) → count_by test (x ∷ xs) ≡ cond (test x) 1 0 + count_by test xs
 count_by-cons test x xs = sum_by-cons (λ y. cond (test y) 1 0) x xs
-
-none_among : (k : BlockKey) (ks : List BlockKey) → AllByRecursion (λ y. same_key k y ≡ false) ks → list_any (same_key k) ks ≡ false
-none_among k [] a = refl
-none_among k (x ∷ ks) a = (λ i. a.0 i || list_any (same_key k) ks) ∙ none_among k ks a.1
 
 module _ (test : BlockKey → Bool) {X : Type 0} where
   counted : (o : Ordering) (k : BlockKey) (v : X) (e : BlockKey × X) (es fs : List (BlockKey × X)) → is_eq o ≡ false → count_by test (keys_in fs) ≡ cond (test k) 1 0 + count_by test (keys_in es)
@@ -49,14 +43,6 @@ module _ (test : BlockKey → Bool) {X : Type 0} where
       let b : count_by test (keys_in (e ∷ es)) ≡ cond (test e.0) 1 0 + count_by test (keys_in es) = count_by-cons test e.0 (keys_in es) in
       omega (arith, a, b, rest)
 
-  first_apart : (b : Bool) (x : X) (o : Option X) → is_some (cond b (Some x) o) ≡ false → b ≡ false
-  first_apart true x o e = absurd (cc)
-  first_apart false x o e = refl
-
-  later_apart : (b : Bool) (x : X) (o : Option X) → is_some (cond b (Some x) o) ≡ false → is_some o ≡ false
-  later_apart true x o e = absurd (cc)
-  later_apart false x o e = e
-
   count_put : (k : BlockKey) (v : X) (es : List (BlockKey × X)) → is_some (find key_cmp k es) ≡ false → count_by test (keys_in (put key_cmp k v es)) ≡ cond (test k) 1 0 + count_by test (keys_in es)
   count_put k v [] new = count_by-cons test k []
   count_put k v (e ∷ es) new = counted (key_cmp k e.0) k v e es (put key_cmp k v es)
@@ -67,18 +53,11 @@ module _ (test : BlockKey → Bool) {X : Type 0} where
   pub count_insert : (m : FinMap key_cmp X) (k : BlockKey) (v : X) → contains_key m k ≡ false → count_by test (keys (insert m k v)) ≡ cond (test k) 1 0 + count_by test (keys m)
   count_insert m k v new = ap (λ es. count_by test (keys_in es)) (entries-insert keys_total m k v) ∙ count_put k v (entries m) (ap is_some (sym (get-entries m k)) ∙ new)
 
-  find_none : (k : BlockKey) (es : List (BlockKey × X)) → is_some (find key_cmp k es) ≡ list_any (same_key k) (keys_in es)
-  find_none k [] = refl
-  find_none k (e ∷ es) = elim (same_key k e.0) as (λ b. is_some (cond b (Some e.1) (find key_cmp k es)) ≡ (b || list_any (same_key k) (keys_in es))) [
-    | true ↦ refl
-    | false ↦ find_none k es
-  ]
-
   -- the map of entries whose keys differ has just these keys
   pub count_entries : (es : List (BlockKey × X)) → IsDistinct same_key (keys_in es) → count_by test (keys (from_entries {R = key_cmp} es)) ≡ count_by test (keys_in es)
   count_entries [] d = ap (λ es. count_by test (keys_in es)) (no_entries X)
   count_entries (e ∷ es) d =
-      count_insert (from_entries es) e.0 e.1 (ap is_some (get-from_entries keys_total es e.0) ∙ find_none e.0 es ∙ none_among e.0 (keys_in es) (IsDistinct-head same_key _ _ d))
+      count_insert (from_entries es) e.0 e.1 (ap is_some (get-from_entries keys_total es e.0) ∙ is_some-find key_cmp e.0 es ∙ none_among e.0 (keys_in es) (IsDistinct-head same_key _ _ d))
       ∙ ap (λ n. cond (test e.0) 1 0 + n) (count_entries es (IsDistinct-tail same_key _ _ d))
       ∙ sym (count_by-cons test e.0 (keys_in es))
 
@@ -113,11 +92,11 @@ distinct-both (k ∷ ks) ls dk dl apart = IsDistinct-cons same_key _ _
 
 -- ---- the places
 
-keys-made : {X Y : Type 0} (g : X → Y) (es : List (BlockKey × X)) → keys_in (map (λ e. (e.0, g e.1)) es) ≡ keys_in es
+pub keys-made : {X Y : Type 0} (g : X → Y) (es : List (BlockKey × X)) → keys_in (map (λ e. (e.0, g e.1)) es) ≡ keys_in es
 keys-made g [] = refl
 keys-made g (e ∷ es) = ap (λ ks. e.0 ∷ ks) (keys-made g es)
 
-keys-both : {X : Type 0} (es fs : List (BlockKey × X)) → keys_in (es ++ fs) ≡ keys_in es ++ keys_in fs
+pub keys-both : {X : Type 0} (es fs : List (BlockKey × X)) → keys_in (es ++ fs) ≡ keys_in es ++ keys_in fs
 keys-both [] fs = refl
 keys-both (e ∷ es) fs = ap (λ ks. e.0 ∷ ks) (keys-both es fs)
 

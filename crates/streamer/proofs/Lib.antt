@@ -1,5 +1,6 @@
 pub mod Blocks
 pub mod Counts
+pub mod Folding
 pub mod Keyed
 pub mod Moves
 pub mod NewPlaces

@@ -89,6 +89,14 @@ impl Rest {
         self.heap.free_count()
     }
 
+    /// The heap, of which each owned cell has the block of a key.
+    pub fn heap(&self) -> &Heap
+        ensures value { result.now ≡ self.now.heap }
+        ensures placed { IsPlaced self.now }
+    {
+        &self.heap
+    }
+
     /// The hash table that names the cell of each key in the heap.
     pub fn hash(&self) -> &HashTable
         ensures value { result.now ≡ self.now.table }

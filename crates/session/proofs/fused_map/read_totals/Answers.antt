@@ -1,8 +1,5 @@
 use Rattle.session.proofs.StandingLemmas.{stands}
 use Rattle.session.proofs.fused_map.read_totals.Goals as goal
 
-pub returns-in_err-totals-clause-stands : goal.returns-in_err-totals-clause-stands
-returns-in_err-totals-clause-stands c = stands _ c.requires
-
 pub returns-clause-stands : goal.returns-clause-stands
 returns-clause-stands c = stands _ c.requires

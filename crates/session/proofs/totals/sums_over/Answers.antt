@@ -1,9 +1,15 @@
 use Rattle.std.proofs.Common.{ap, ◌∙◌}
 use Rattle.std.specs.List.{fold}
-use Rattle.streamer.specs.Places.{blocks_of}
-use Rattle.session.specs.Sums.{added, known_among, nothing}
-use Rattle.session.proofs.KnownLemmas.{known_by_keys}
+use Rattle.std.specs.FinMap.{entries}
+use Rattle.block_heap.specs.Cells.{Cells}
+use Rattle.chunk_store.specs.Store.{Stored}
+use Rattle.streamer.specs.Owners.{owned_blocks}
+use Rattle.session.specs.Sums.{nothing, with_known, with_packed_known}
+use Rattle.session.proofs.SumLemmas.{summed_places}
 use Rattle.session.proofs.totals.sums_over.Goals as goal
 
 pub returns : goal.returns
-returns c = let m = blocks_of c.args.rest.now in c.sums_at_keys.ensures ∙ ap (λ ks. fold added nothing (known_among m ks)) (c.deref.ensures.value ∙ c.in_ok-keys.ensures.blocks) ∙ ap (fold added nothing) (known_by_keys m)
+returns c =
+    let s = c.sums_in.result in
+    c.with_store.ensures ∙ ap (λ (u : Stored). fold with_packed_known s (entries u.contents)) c.store.ensures.value
+    ∙ summed_places c.args.rest.now s c.store.ensures.placed (c.sums_in.ensures.value ∙ ap (λ (h : Cells). fold with_known nothing (owned_blocks h.cells)) c.heap.ensures.value)
