@@ -2,5 +2,10 @@
 #![tactic(auto)]
 
 mod depth;
+mod depths;
 
 pub use depth::depth_at;
+pub use depths::Depths;
+
+#[cfg(test)]
+mod tests;
