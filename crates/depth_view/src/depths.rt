@@ -1,8 +1,8 @@
-ghost use Rattle.std.specs.Prelude.{◌≡◌, ◌<◌, ◌≤◌, ◌+◌, ◌*◌, pos, ◌*ℤ◌, ◌≤ℤ◌, IsTrue, ◌↔◌, IfOk, ℕ, slice_index};
+ghost use Rattle.std.specs.Prelude.{◌≡◌, ◌<◌, ◌≤◌, ◌+◌, ◌*◌, ◌^◌, pos, ◌*ℤ◌, ◌≤ℤ◌, IsTrue, ◌↔◌, IfOk, ℕ, ◌++◌, length, map, slice_index, vec_len, vec_capacity};
 ghost use Rattle.depth_frame.specs.DepthMaps.{DepthMap};
 ghost use Rattle.camera.specs.declared.camera.CameraFields.{CameraFields as Fields};
-ghost use Rattle.camera.specs.Cameras.{HasRanges, depth_of};
-ghost use Rattle.depth_view.specs.Views.{depth_list, listed_depth, no_depth};
+ghost use Rattle.camera.specs.Cameras.{HasRanges};
+ghost use Rattle.depth_view.specs.Views.{IsValid, depth_list, listed_depth};
 
 use camera::{Camera, CameraFields};
 use depth_frame::DepthFrame;
@@ -65,7 +65,10 @@ impl Depths {
 }
 
 /// Appends the depth of each sample.
-fn push_depths(depths: &mut Vec<i32>, valid: ValidSamples, samples: &[u16]) {
+fn push_depths(depths: &mut Vec<i32>, valid: ValidSamples, samples: &[u16])
+    requires { vec_len depths.old + length samples.now ≤ vec_capacity depths.old }
+    ensures { depths.new.items ≡ depths.old.items ++ map (listed_depth valid.fields) samples.now }
+{
     for i in 0..samples.len() {
         depths.push_reserved(valid.depth(samples[i]));
     }
@@ -74,48 +77,105 @@ fn push_depths(depths: &mut Vec<i32>, valid: ValidSamples, samples: &[u16]) {
 /// The samples of a camera that are valid, which are those from `least` on, `count` in number.
 #[derive(Clone, Copy)]
 struct ValidSamples {
+    fields: CameraFields,
     least: u32,
     count: u32,
-    unit: i32,
+    unit: u32,
+    ghost ranges: { HasRanges fields },
+    ghost unit_is: { pos unit ≡ fields.unit },
+    ghost valid: { (raw : ℕ) → raw < 65536 → (IsValid fields raw ↔ ((least ≤ raw) × (raw < least + count))) },
+    ghost last: { least + count < 2 ^ 31 },
 }
 
 impl ValidSamples {
-    fn of(camera: &Camera) -> ValidSamples {
-        let k = camera.fields();
-        let least = least_valid(k.near, k.unit);
+    fn of(camera: &Camera) -> ValidSamples
+        ensures { result.fields ≡ camera.now }
+    {
+        let fields = camera.fields();
+        let unit = unsigned(fields.unit);
+        let least = least_valid(unsigned(fields.near), unit);
+        let most = most_valid(unsigned(fields.far), unit);
         ValidSamples {
+            fields,
             least,
-            count: count_from(least, most_valid(k.far, k.unit)),
-            unit: k.unit as i32,
+            count: count_from(least, most),
+            unit,
         }
     }
 
     /// The depth of a sample, -2^30 where it is not valid.
-    fn depth(self, sample: u16) -> i32 {
+    fn depth(self, sample: u16) -> i32
+        ensures { result ≡ listed_depth self.fields sample }
+    {
         if self.has(sample) {
-            i32::from(sample) * self.unit
+            depth(sample, self.unit)
         } else {
             NO_DEPTH
         }
     }
 
-    /// Whether a sample is valid, by one comparison: the offset of a lesser one wraps, and is above each count.
-    fn has(self, sample: u16) -> bool {
-        u32::from(sample).wrapping_sub(self.least) < self.count
+    /// Whether a sample is valid.
+    fn has(self, sample: u16) -> bool
+        ensures { IsTrue result ↔ IsValid self.fields sample }
+    {
+        is_from(self.least, self.count, sample)
     }
 }
 
-/// The least sample, from 1 on, that has at least the depth `near`.
-fn least_valid(near: i64, unit: i64) -> u32 {
-    ((near + unit - 1) / unit) as u32
+/// Whether a sample is one of the `count` ones from `least` on, by one comparison: the offset of a lesser one wraps, and is
+/// above the count.
+fn is_from(least: u32, count: u32, sample: u16) -> bool
+    requires { least + count < 2 ^ 31 }
+    ensures { IsTrue result ↔ ((least ≤ sample) × (sample < least + count)) }
+{
+    u32::from(sample).wrapping_sub(least) < count
+}
+
+/// The depth of a sample in micrometres.
+fn depth(sample: u16, unit: u32) -> i32
+    requires { sample * unit ≤ 16000000 }
+    ensures { result ≡ pos (sample * unit) }
+{
+    (u32::from(sample) * unit) as i32
+}
+
+/// A length of a camera's fields, none of which is below 0.
+fn unsigned(length: i64) -> u32
+    requires least { pos 1 ≤ℤ length }
+    requires most { length ≤ℤ pos 16000000 }
+    ensures value { pos result ≡ length }
+    ensures least { 1 ≤ result }
+    ensures most { result ≤ 16000000 }
+{
+    length as u32
+}
+
+/// The least sample that has at least the depth `near`.
+fn least_valid(near: u32, unit: u32) -> u32
+    requires near { near ≤ 16000000 }
+    requires unit { 1 ≤ unit }
+    requires unit_high { unit ≤ 16000000 }
+    ensures value { (raw : ℕ) → (near ≤ raw * unit) ↔ (result ≤ raw) }
+    ensures bound { result ≤ 16000000 }
+{
+    (near + unit - 1) / unit
 }
 
 /// The greatest sample that has at most the depth `far`.
-fn most_valid(far: i64, unit: i64) -> u32 {
-    (far / unit).min(65535) as u32
+fn most_valid(far: u32, unit: u32) -> u32
+    requires unit { 1 ≤ unit }
+    ensures value { (raw : ℕ) → raw < 65536 → (raw * unit ≤ far) ↔ (raw ≤ result) }
+    ensures bound { result ≤ 65535 }
+{
+    (far / unit).min(65535)
 }
 
 /// The number of the numbers from `least` to `most`.
-fn count_from(least: u32, most: u32) -> u32 {
+fn count_from(least: u32, most: u32) -> u32
+    requires least { least ≤ 16000000 }
+    requires most { most ≤ 65535 }
+    ensures value { (raw : ℕ) → (least ≤ raw) → (raw ≤ most) ↔ (raw < least + result) }
+    ensures bound { result ≤ 65536 }
+{
     if least <= most { most - least + 1 } else { 0 }
 }
