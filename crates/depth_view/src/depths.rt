@@ -1,4 +1,5 @@
 ghost use Rattle.std.specs.Prelude.{◌≡◌, ◌<◌, ◌≤◌, ◌+◌, ◌*◌, ◌^◌, pos, ◌*ℤ◌, ◌≤ℤ◌, IsTrue, ◌↔◌, IfOk, ℕ, ◌++◌, length, map, slice_index, vec_len, vec_capacity};
+ghost use Rattle.fixed_geom.specs.Vectors.{IsWithin};
 ghost use Rattle.depth_frame.specs.DepthMaps.{DepthMap};
 ghost use Rattle.camera.specs.declared.camera.CameraFields.{CameraFields as Fields};
 ghost use Rattle.camera.specs.Cameras.{HasRanges};
@@ -54,7 +55,8 @@ impl Depths {
     /// The depth of the pixel of this index, column `u` of row `v` having the index `u + width * v`. An index past the
     /// last pixel has the depth -2^30.
     pub fn at(&self, index: usize) -> i64
-        ensures { (k : Fields) (p : DepthMap) → self.now ≡ depth_list k p → result ≡ listed_depth k (slice_index p.raw index) }
+        ensures value { (k : Fields) (p : DepthMap) → self.now ≡ depth_list k p → result ≡ listed_depth k (slice_index p.raw index) }
+        ensures bound { IsWithin (pos (2 ^ 31)) result }
     {
         if index < self.depths.len() {
             i64::from(self.depths[index])

@@ -32,10 +32,10 @@ pub struct Kernel<'a> {
     truncation: Truncation,
     reciprocals: Reciprocals,
     ghost weight: { 1 ≤ max_weight },
-    ghost width: { columns.size ≡ camera.now.width },
+    ghost width: { pos columns.size ≡ camera.now.width },
     ghost fx: { columns.f ≡ camera.now.fx },
     ghost cx: { columns.c ≡ camera.now.cx },
-    ghost height: { rows.size ≡ camera.now.height },
+    ghost height: { pos rows.size ≡ camera.now.height },
     ghost fy: { rows.f ≡ camera.now.fy },
     ghost cy: { rows.c ≡ camera.now.cy },
     ghost mu: { truncation.mu ≡ camera.now.mu },
@@ -61,8 +61,8 @@ impl<'a> Kernel<'a> {
             pose,
             depths,
             max_weight,
-            columns: PixelAxis::of(k.width, k.fx, k.cx),
-            rows: PixelAxis::of(k.height, k.fy, k.cy),
+            columns: PixelAxis::of(k.width as usize, k.fx, k.cx),
+            rows: PixelAxis::of(k.height as usize, k.fy, k.cy),
             truncation: Truncation::of(k.mu),
             reciprocals: Reciprocals::make(),
         }
@@ -125,7 +125,7 @@ impl<'a> Kernel<'a> {
         ensures front { IfSome result (λ eta. (neg_ℤ self.now.camera.now.mu) ≤ℤ eta) }
     {
         let (u, v) = self.pixel(point)?;
-        let depth = self.depths.at(u + self.width() * v);
+        let depth = self.depths.at(index(self.columns.size, u, v));
         signed_distance(self.truncation.mu, point.z, depth)
     }
 
@@ -133,7 +133,8 @@ impl<'a> Kernel<'a> {
     /// the pixel nearest to it is not one of the image's.
     fn pixel(&self, point: Vec3) -> Option<(usize, usize)>
         requires point { AreWithin (pos (2 ^ 26)) point }
-        ensures { result ≡ project self.now.camera.now point }
+        ensures value { result ≡ project self.now.camera.now point }
+        ensures bound { IfSome result (λ p. (p.0 < 2048) × (p.1 < 2048)) }
     {
         if point.z <= 0 {
             return None;
@@ -142,13 +143,6 @@ impl<'a> Kernel<'a> {
         let u = self.columns.inside(point.x, point.z, inverse)?;
         let v = self.rows.inside(point.y, point.z, inverse)?;
         Some((u, v))
-    }
-
-    /// Pixels in a row of the image.
-    fn width(&self) -> usize
-        ensures { pos result ≡ self.now.camera.now.width }
-    {
-        self.columns.size as usize
     }
 
     /// A voxel after one more signed distance `eta`, which is at least `-mu`.
@@ -164,6 +158,16 @@ impl<'a> Kernel<'a> {
             w: next_weight(voxel.w, self.max_weight),
         }
     }
+}
+
+/// The index of a pixel, row by row.
+fn index(width: usize, u: usize, v: usize) -> usize
+    requires width { width ≤ 2048 }
+    requires column { u < 2048 }
+    requires row { v < 2048 }
+    ensures { result ≡ u + width * v }
+{
+    u + width * v
 }
 
 /// How far the depth `z` lies in front of `depth`. `None` where it lies more than `mu` behind it.

@@ -1,5 +1,5 @@
 //! One coordinate of the pixel that a point projects to: it is estimated in floats, and the estimate is tested by products.
-ghost use Rattle.std.specs.Prelude.{◌≡◌, ◌^◌, ◌↔◌, IsTrue, Some, None, if◌then◌else◌, pos, negsuc, ◌+ℤ◌, ◌-ℤ◌, ◌*ℤ◌, ◌≤ℤ◌, ◌<ℤ◌, unsigned_abs};
+ghost use Rattle.std.specs.Prelude.{◌≡◌, ◌^◌, ◌≤◌, ◌<◌, ◌↔◌, IsTrue, IfSome, Some, None, if◌then◌else◌, pos, negsuc, ◌+ℤ◌, ◌-ℤ◌, ◌*ℤ◌, ◌≤ℤ◌, ◌<ℤ◌, unsigned_abs};
 ghost use Rattle.fixed_geom.specs.Division.{floor_div};
 ghost use Rattle.fixed_geom.specs.Vectors.{IsWithin};
 ghost use Rattle.camera.specs.Cameras.{pixel_axis as pixel_of, within};
@@ -18,7 +18,7 @@ const WHOLE: f64 = 6_755_399_441_063_936.0;
 #[derive(Clone, Copy)]
 pub(crate) struct PixelAxis {
     /// The number of pixels.
-    pub(crate) size: i64,
+    pub(crate) size: usize,
     /// The focal length, in 1/65536 pixel.
     pub(crate) f: i64,
     /// The centre, in 1/65536 pixel.
@@ -26,14 +26,14 @@ pub(crate) struct PixelAxis {
     /// The focal length and the centre in pixels, for estimates.
     focal: f64,
     centre: f64,
-    ghost size_within: { IsWithin (pos 2048) size },
+    ghost size_most: { size ≤ 2048 },
     ghost f_within: { IsWithin (pos (2 ^ 30)) f },
     ghost c_within: { IsWithin (pos (2 ^ 27)) c },
 }
 
 impl PixelAxis {
-    pub(crate) fn of(size: i64, f: i64, c: i64) -> PixelAxis
-        requires size { IsWithin (pos 2048) size }
+    pub(crate) fn of(size: usize, f: i64, c: i64) -> PixelAxis
+        requires size { size ≤ 2048 }
         requires f { IsWithin (pos (2 ^ 30)) f }
         requires c { IsWithin (pos (2 ^ 27)) c }
         ensures size { result.size ≡ size }
@@ -55,7 +55,8 @@ impl PixelAxis {
         requires x { IsWithin (pos (2 ^ 26)) x }
         requires z { IsWithin (pos (2 ^ 26)) z }
         requires front { pos 1 ≤ℤ z }
-        ensures { result ≡ (if within (pos 0) (self.now.size -ℤ pos 1) (pixel_of self.now.f self.now.c x z) then Some (unsigned_abs (pixel_of self.now.f self.now.c x z)) else None) }
+        ensures value { result ≡ (if within (pos 0) (pos self.now.size -ℤ pos 1) (pixel_of self.now.f self.now.c x z) then Some (unsigned_abs (pixel_of self.now.f self.now.c x z)) else None) }
+        ensures bound { IfSome result (λ u. u < 2048) }
     {
         index_below(self.size, self.pixel(x, z, inverse))
     }
@@ -73,7 +74,9 @@ impl PixelAxis {
 }
 
 /// The inverse of a depth, for estimates.
-pub(crate) fn inverse(z: i64) -> f64 {
+pub(crate) fn inverse(z: i64) -> f64
+    requires { IsWithin (pos (2 ^ 26)) z }
+{
     1.0 / float(z)
 }
 
@@ -95,15 +98,24 @@ fn estimate(coordinate: f64) -> i64
 }
 
 /// The pixel as an index, where it is one of the first `size` ones.
-fn index_below(size: i64, pixel: i64) -> Option<usize>
-    requires { IsWithin (pos 2048) size }
-    ensures { result ≡ (if within (pos 0) (size -ℤ pos 1) pixel then Some (unsigned_abs pixel) else None) }
+fn index_below(size: usize, pixel: i64) -> Option<usize>
+    requires { size ≤ 2048 }
+    ensures value { result ≡ (if within (pos 0) (pos size -ℤ pos 1) pixel then Some (unsigned_abs pixel) else None) }
+    ensures bound { IfSome result (λ u. u < 2048) }
 {
-    if 0 <= pixel && pixel < size {
+    if is_below(size, pixel) {
         Some(pixel as usize)
     } else {
         None
     }
+}
+
+/// Whether a pixel is one of the first `size` ones, by one comparison without a sign.
+fn is_below(size: usize, pixel: i64) -> bool
+    requires { size ≤ 2048 }
+    ensures { result ≡ within (pos 0) (pos size -ℤ pos 1) pixel }
+{
+    pixel.cast_unsigned() < size as u64
 }
 
 /// The pixel coordinate of a point before the camera, `k` being the centre and a half. No division is made where the
