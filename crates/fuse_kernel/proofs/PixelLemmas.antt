@@ -120,3 +120,15 @@ pixel_of_centre f c x z = ap (λ t. floor_div t (pos 65536 *ℤ z)) (ap (λ t. (
   where
     grouped : (a b d : ℤ) → a +ℤ (b +ℤ d) ≡ (a +ℤ b) +ℤ d
     grouped a b d = omega (arith, ints)
+
+-- one coordinate of a pixel, as the machine reads it
+pub pixel_axis_read : (f c x z r : ℤ) → IsWithin (pos 1073741824) f → IsWithin (pos 134217728) c → SFits w64 x → SFits w64 z → SFits w64 r
+    → r ≡ raised_pixel (read f) (read (read c +ℤ pos 32768)) (read x) (read z) → read r ≡ pixel_axis f c x z
+pixel_axis_read f c x z r wf wc fx fz fr er =
+    let one : read f ≡ f = plain_read (pos 1073741824) f (omega (arith, ints)) wf in
+    let two : read c ≡ c = plain_read (pos 134217728) c (omega (arith, ints)) wc in
+    let three : read (c +ℤ pos 32768) ≡ c +ℤ pos 32768 = raised_read c wc in
+    to_z-of_z w64 r fr ∙ er ∙ rw (one, two, three, to_z-of_z w64 x fx, to_z-of_z w64 z fz) (pixel_of_centre f c x z)
+  where
+    raised_read : (c : ℤ) → IsWithin (pos 134217728) c → read (c +ℤ pos 32768) ≡ c +ℤ pos 32768
+    raised_read c w = omega (arith, ints)

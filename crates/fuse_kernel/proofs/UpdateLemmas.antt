@@ -1,6 +1,6 @@
 -- The update of a voxel: the mean and the truncated distance are within their bounds, and the machine reads them as they are.
 use Rattle.std.proofs.Common.{◌≡◌, ℕ, ◌+◌, ◌<◌, ◌≤◌, min, refl, sym, ◌∙◌, ap, subst, arith, rules}
-use Rattle.std.specs.Prelude.{ℤ, pos, negsuc, neg_ℤ, ◌+ℤ◌, ◌*ℤ◌, ◌≤ℤ◌, ◌<ℤ◌, true, int_le}
+use Rattle.std.specs.Prelude.{ℤ, pos, negsuc, neg_ℤ, ◌+ℤ◌, ◌*ℤ◌, ◌≤ℤ◌, ◌<ℤ◌, true, int_le, unsigned_abs}
 use Rattle.std.specs.Int.{int_min}
 use Rattle.std.proofs.lemmas.Int.{ints, clamps, to_z-of_z, fits_signed_from_abs}
 use mir.Val.{SFits, to_z, of_z}
@@ -62,6 +62,7 @@ weighted_is_voxel m n w top b e h = record { in_range = λ x. outside m b x; uno
     weighs : (n w top : ℕ) → w ≡ min (n + 1) top → 1 ≤ top → w ≡ 0 → ⊥
     weighs n w top e h z = omega arith
 
--- a depth that a pixel shows is bounded
-pub depth_within : (k : CameraFields) (d : ℤ) → HasRanges k → (pos 1 ≤ℤ d) × (d ≤ℤ k.far) → IsWithin (pos 16000000) d
-depth_within k d ranges h = record { low = omega (arith, ints, h.0); high = omega (arith, ints, h.1, ranges.far_high) }
+-- a number of pixels
+pub size_read : (z : ℤ) → pos 1 ≤ℤ z → z ≤ℤ pos 2048 → pos (unsigned_abs (read z)) ≡ z
+size_read (pos n) low high = let same : read (pos n) ≡ pos n = omega (arith, ints) in ap (λ z. pos (unsigned_abs z)) same
+size_read (negsuc n) low high = absurd (omega (arith, ints))

@@ -122,6 +122,7 @@ impl<'a> Kernel<'a> {
         requires point { AreWithin (pos (2 ^ 26)) point }
         ensures value { (frame : DepthMap) (m : PoseOf) → FitsImage self.now.camera.now frame → self.now.depths.now ≡ depth_list self.now.camera.now frame
             → result ≡ signed_distance_of (view_of self.now.camera.now m frame) point }
+        ensures bound { IfSome result (λ eta. IsWithin (pos (2 ^ 33)) eta) }
         ensures front { IfSome result (λ eta. (neg_ℤ self.now.camera.now.mu) ≤ℤ eta) }
     {
         let (u, v) = self.pixel(point)?;
@@ -176,6 +177,7 @@ fn signed_distance(mu: i64, z: i64, depth: i64) -> Option<i64>
     requires z { IsWithin (pos (2 ^ 26)) z }
     requires depth { IsWithin (pos (2 ^ 31)) depth }
     ensures value { result ≡ signed_distance_by mu z depth }
+    ensures bound { IfSome result (λ eta. IsWithin (pos (2 ^ 33)) eta) }
     ensures front { IfSome result (λ eta. (neg_ℤ mu) ≤ℤ eta) }
 {
     let eta = depth - z;
