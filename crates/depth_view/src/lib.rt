@@ -3,6 +3,7 @@
 
 mod depth;
 mod depths;
+pub mod laws;
 
 pub use depth::depth_at;
 pub use depths::Depths;
