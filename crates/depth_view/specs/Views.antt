@@ -1,5 +1,6 @@
 -- A view: a depth map, the camera that took it, and the pose that it was taken from.
-use Rattle.std.specs.Prelude.{◌≡◌, ℕ, ℤ, pos, Option}
+use Rattle.std.specs.Prelude.{◌≡◌, ℕ, ℤ, pos, neg_ℤ, ◌*ℤ◌, ◌≤ℤ◌, List, map, Option}
+use Rattle.std.specs.Option.{unwrap_or}
 use Rattle.fixed_geom.specs.Poses.{Pose, IsPose}
 use Rattle.depth_frame.specs.DepthMaps.{DepthMap, sample_at}
 use Rattle.camera.specs.declared.camera.CameraFields.{CameraFields}
@@ -27,3 +28,22 @@ pub record IsView (w : View) : Type 0 where
 -- the depth that a pixel shows, nothing where its sample is not valid
 abbrev pub depth_at : View → (u v : ℕ) → Option ℤ
 depth_at w u v = depth_of w.camera (sample_at w.depths u v)
+
+-- ---- the depths of a frame
+
+-- the depth that stands for none: it lies so far behind the camera that each point is more than mu behind it
+abbrev pub no_depth : ℤ
+no_depth = neg_ℤ (pos 1073741824)
+
+-- the depth of a raw sample, or the one that stands for none
+abbrev pub listed_depth : CameraFields → (raw : ℕ) → ℤ
+listed_depth k raw = unwrap_or (depth_of k raw) no_depth
+
+-- a raw sample shows a depth: its depth is from near to far, which no depth of 0 is
+pub record IsValid (k : CameraFields) (raw : ℕ) : Type 0 where
+  pub near : k.near ≤ℤ (pos raw *ℤ k.unit)
+  pub far : (pos raw *ℤ k.unit) ≤ℤ k.far
+
+-- the depths of a depth map's pixels, row by row
+abbrev pub depth_list : CameraFields → DepthMap → List ℤ
+depth_list k p = map (listed_depth k) p.raw

@@ -2,5 +2,11 @@
 #![tactic(auto)]
 
 mod depth;
+mod depths;
+pub mod laws;
 
 pub use depth::depth_at;
+pub use depths::Depths;
+
+#[cfg(test)]
+mod tests;

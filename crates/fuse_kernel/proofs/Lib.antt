@@ -1,6 +1,9 @@
 pub mod CornerLemmas
 pub mod LawLemmas
 pub mod Machine
+pub mod MeanLemmas
+pub mod PixelLemmas
 pub mod RunLemmas
+pub mod TruncationLemmas
 pub mod UpdateLemmas
 pub mod VoxelStepLemmas

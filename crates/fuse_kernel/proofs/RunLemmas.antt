@@ -1,62 +1,57 @@
 -- The signed distance of a voxel, and a loop over the voxels of a block.
-use Rattle.std.proofs.Common.{◌≡◌, ℕ, zero, suc, ◌+◌, Bool, cond, refl, sym, ◌∙◌, ap, subst, arith, List, [], ◌∷◌, ◌++◌, length, map, set, take, drop}
-use Rattle.std.specs.Prelude.{ℤ, pos, neg_ℤ, ◌-ℤ◌, ◌≤ℤ◌, int_le, Option, None, Some, IfSome, option_and_then, slice_get}
+use Rattle.std.proofs.Common.{◌≡◌, ℕ, zero, suc, ◌+◌, ◌*◌, cond, rules, refl, sym, ◌∙◌, ap, subst, arith, List, [], ◌∷◌, ◌++◌, length, map, set, take, drop}
+use Rattle.std.specs.Prelude.{ℤ, pos, neg_ℤ, ◌-ℤ◌, ◌≤ℤ◌, ◌<ℤ◌, int_le, false, Option, None, Some, option_and_then, slice_get, slice_index}
 use Rattle.std.specs.List.{enumerate_from}
-use Rattle.std.proofs.lemmas.Int.{ints}
+use Rattle.std.specs.Option.{unwrap_or}
+use Rattle.std.proofs.lemmas.Int.{ints, to_z-of_z}
+use mir.Val.{SFits}
+use mir.Syntax.{w64}
 use Rattle.fixed_geom.specs.declared.vector.Vec3.{Vec3}
-use Rattle.fixed_geom.specs.Poses.{cam}
+use Rattle.fixed_geom.specs.Poses.{Pose, cam}
 use Rattle.fixed_geom.specs.Vectors.{IsWithin}
 use Rattle.voxel_block.specs.declared.key.BlockKey.{BlockKey}
 use Rattle.voxel_block.specs.declared.voxel.Voxel.{Voxel}
 use Rattle.voxel_block.proofs.Blocks.{IsChangedTo, changed_more}
 use Rattle.camera.specs.declared.camera.CameraFields.{CameraFields}
-use Rattle.camera.specs.Cameras.{HasRanges}
+use Rattle.camera.specs.Cameras.{depth_of, project}
 use Rattle.camera.specs.Grid.{point_of}
 use Rattle.camera.proofs.Readings.{read}
-use Rattle.depth_view.specs.Views.{View}
-use Rattle.fuse_kernel.specs.Updates.{averaged, shown_depth, signed_distance, signed_distance_of, update, update_by}
+use Rattle.depth_frame.specs.DepthMaps.{DepthMap, sample_at}
+use Rattle.depth_view.specs.Views.{View, FitsImage, depth_at, listed_depth, no_depth, view_of}
+use Rattle.fuse_kernel.specs.Updates.{averaged, signed_distance, signed_distance_of, update, update_by}
 use Rattle.fuse_kernel.specs.VoxelSteps.{updated_to}
 use Rattle.fuse_kernel.proofs.Machine.{plain_read}
-use Rattle.fuse_kernel.proofs.UpdateLemmas.{mu_read, mu_within}
+use Rattle.fuse_kernel.proofs.UpdateLemmas.{mu_read}
 
 -- ---- the signed distance
 
--- the difference of two depths, as the machine makes it
-eta_is : (d z : ℤ) → IsWithin (pos 16000000) d → IsWithin (pos 67108864) z → read (read d -ℤ read z) ≡ d -ℤ z
-eta_is d z v w =
-    let one : read d ≡ d = plain_read (pos 16000000) d (omega (arith, ints)) v in
-    let two : read z ≡ z = plain_read (pos 67108864) z (omega (arith, ints)) w in
-    rw (one, two) (plain d z v w)
+-- a point before the camera is more than mu behind what a pixel without a depth shows
+behind_all : (mu z : ℤ) → mu ≤ℤ pos 1000000 → IsWithin (pos 67108864) z → int_le (neg_ℤ mu) (no_depth -ℤ z) ≡ false
+behind_all mu z most w = int_le_false (neg_ℤ mu) (no_depth -ℤ z) (omega (arith, ints))
   where
-    plain : (d z : ℤ) → IsWithin (pos 16000000) d → IsWithin (pos 67108864) z → read (d -ℤ z) ≡ d -ℤ z
-    plain d z v w = omega (arith, ints)
+    int_le_false : (a b : ℤ) → b <ℤ a → int_le a b ≡ false
+    int_le_false a b h = search (rules, h)
 
--- the machine's answer, by its test
-pub signed_distance_is : (mu z d : ℤ) (b : Bool) → IsWithin (pos 1000000) mu → IsWithin (pos 67108864) z → IsWithin (pos 16000000) d → int_le (neg_ℤ (read mu)) (read (read d -ℤ read z)) ≡ b
-    → cond b (Some (read (read d -ℤ read z))) None ≡ signed_distance mu z d
-signed_distance_is mu z d b m zb db t =
-    let test : int_le (neg_ℤ mu) (d -ℤ z) ≡ b = sym (rw (mu_read mu m, eta_is d z db zb) refl) ∙ t in
-    ap (λ (y : ℤ). cond b (Some y) None) (eta_is d z db zb) ∙ sym (ap (λ (c : Bool). cond c (Some (d -ℤ z)) None) test)
+-- so no flag is needed of a pixel that shows no depth
+by_depth : (mu z : ℤ) (o : Option ℤ) → mu ≤ℤ pos 1000000 → IsWithin (pos 67108864) z → signed_distance mu z (unwrap_or o no_depth) ≡ option_and_then (λ d. signed_distance mu z d) o
+by_depth mu z (Some d) most w = refl
+by_depth mu z None most w = ap (λ b. cond b (Some (no_depth -ℤ z)) None) (behind_all mu z most w)
 
-pub signed_distance_found : (w : View) (c : Vec3) (d mu : ℤ) (r : Option ℤ) → HasRanges w.camera → mu ≡ w.camera.mu → IsWithin (pos 67108864) c.z → IsWithin (pos 16000000) d → ◌≡◌ {A = Option ℤ} (Some d) (shown_depth w c) → r ≡ signed_distance (read mu) (read c.z) (read d) → r ≡ signed_distance_of w c
-signed_distance_found w c d mu r ranges is zb db found answer =
-    let one : read mu ≡ w.camera.mu = ap read is ∙ mu_read w.camera.mu (mu_within w.camera ranges) in
+-- the width that the update has is that of a depth map which fits the image
+width_is : (n m : ℕ) (w : ℤ) → pos n ≡ w → pos m ≡ w → n ≡ m
+width_is n m w e f = omega (arith, ints)
+
+-- the signed distance, by the listed depth of the pixel
+pub signed_distance_found : (k : CameraFields) (m : Pose) (p : DepthMap) (c : Vec3) (u v i size : ℕ) (d mu : ℤ) (r : Option ℤ)
+    → mu ≡ k.mu → pos 1 ≤ℤ mu → mu ≤ℤ pos 1000000 → IsWithin (pos 67108864) c.z → FitsImage k p → pos size ≡ k.width → ◌≡◌ {A = Option (ℕ × ℕ)} (Some (u, v)) (project k c) → i ≡ u + size * v
+    → SFits w64 d → d ≡ listed_depth k (slice_index p.raw i) → r ≡ signed_distance (read mu) (read c.z) (read d) → r ≡ signed_distance_of (view_of k m p) c
+signed_distance_found k m p c u v i size d mu r is least most zb fits width found at fd listed answer =
+    let one : read mu ≡ k.mu = mu_read mu (record { low = omega (arith, ints); high = most }) ∙ is in
     let two : read c.z ≡ c.z = plain_read (pos 67108864) c.z (omega (arith, ints)) zb in
-    let three : read d ≡ d = plain_read (pos 16000000) d (omega (arith, ints)) db in
-    answer ∙ rw (one, two, three) refl ∙ ap (λ (o : Option ℤ). option_and_then (λ d. signed_distance w.camera.mu c.z d) o) found
-
--- a point that is at most mu behind
-pub front_of : (k : CameraFields) (mu : ℤ) (r : Option ℤ) → HasRanges k → mu ≡ k.mu → IfSome r (λ eta. (neg_ℤ (read mu)) ≤ℤ eta) → IfSome r (λ eta. (neg_ℤ k.mu) ≤ℤ eta)
-front_of k mu r ranges is h =
-    let one : read mu ≡ k.mu = ap read is ∙ mu_read k.mu (mu_within k ranges) in
-    subst (λ (m : ℤ). IfSome r (λ eta. (neg_ℤ m) ≤ℤ eta)) one h
-
--- the average, as the machine makes it
-pub averaged_by : (k : CameraFields) (mu : ℤ) (n : ℕ) (eta : ℤ) (x y : Voxel) → HasRanges k → mu ≡ k.mu → IsWithin (pos 8796093022208) eta → y ≡ averaged (read mu) n (read eta) x → y ≡ averaged k.mu n eta x
-averaged_by k mu n eta x y ranges is small e =
-    let one : read mu ≡ k.mu = ap read is ∙ mu_read k.mu (mu_within k ranges) in
-    let two : read eta ≡ eta = plain_read (pos 8796093022208) eta (omega (arith, ints)) small in
-    e ∙ rw (one, two) refl
+    let place : i ≡ u + p.width * v = at ∙ ap (λ n. u + n * v) (width_is size p.width k.width width fits.width) in
+    let three : read d ≡ listed_depth k (sample_at p u v) = to_z-of_z w64 d fd ∙ listed ∙ ap (λ j. listed_depth k (slice_index p.raw j)) place in
+    answer ∙ rw (one, two, three) refl ∙ by_depth k.mu c.z (depth_of k (sample_at p u v)) (subst (λ z. z ≤ℤ pos 1000000) is most) zb
+    ∙ ap (λ (o : Option (ℕ × ℕ)). option_and_then (λ d. signed_distance k.mu c.z d) (option_and_then (λ q. depth_at (view_of k m p) q.0 q.1) o)) found
 
 -- ---- one more of the first voxels
 

@@ -1,3 +1,4 @@
 pub mod Laws
+pub mod Pixels
 pub mod Updates
 pub mod VoxelSteps

@@ -1,14 +1,16 @@
 //! The update of a block by a frame.
 #![tactic(auto)]
 
-mod averaging;
 mod corner;
+mod kernel;
 pub mod laws;
+mod mean;
 mod near_cam_q30;
-mod update;
+mod pixel_axis;
+mod truncation;
 mod voxel_steps;
 
-pub use update::update_block;
+pub use kernel::Kernel;
 
 #[cfg(test)]
 mod tests;

@@ -1,9 +1,13 @@
 ghost use Rattle.std.specs.Prelude.{◌≡◌, ◌≤◌, IfSome, vec_len};
 ghost use Rattle.depth_view.specs.Views.{FitsImage};
 
-use crate::update_block;
+use crate::Kernel;
+use crate::mean::Reciprocals;
+use crate::pixel_axis::{PixelAxis, inverse};
+use crate::truncation::Truncation;
 use camera::{Camera, CameraFields};
 use depth_frame::DepthFrame;
+use depth_view::Depths;
 use fixed_geom::{Pose, PoseRows, Vec3};
 use std::alloc::Global;
 use voxel_block::{Block, BlockKey, Voxel};
@@ -86,14 +90,17 @@ fn column(alloc: Global, max_weight: u8, samples: &[u16]) -> Option<[Voxel; 10]>
     let mut near = Block::make(alloc).ok()?;
     let mut far = Block::make(alloc).ok()?;
     let pose = pose(UPRIGHT, Vec3 { x: 0, y: 0, z: 0 })?;
+    let mut depths = Depths::make(alloc);
     for sample in samples {
         let (camera, frame) = narrow(alloc, *sample)?;
+        depths.fill(&camera, &frame).ok()?;
+        let kernel = Kernel::of(&camera, &pose, &depths, max_weight);
         let (z12, z13) = (
             BlockKey { x: 0, y: 0, z: 12 },
             BlockKey { x: 0, y: 0, z: 13 },
         );
-        update_block(&mut near, z12, &camera, &pose, &frame, max_weight);
-        update_block(&mut far, z13, &camera, &pose, &frame, max_weight);
+        kernel.update(&mut near, z12);
+        kernel.update(&mut far, z13);
     }
     Some([
         near.get(0),
@@ -177,9 +184,11 @@ fn sums(block: &Block) -> (u32, i64, i64) {
 fn after_walls(alloc: Global, r: [i64; 9], t: Vec3, key: BlockKey) -> Option<(u32, i64, i64)> {
     let pose = pose(r, t)?;
     let mut block = Block::make(alloc).ok()?;
+    let mut depths = Depths::make(alloc);
     for (depth, max_weight) in [(1000_u16, 255_u8), (950, 255), (990, 2)] {
         let (camera, frame) = wide(alloc, depth)?;
-        update_block(&mut block, key, &camera, &pose, &frame, max_weight);
+        depths.fill(&camera, &frame).ok()?;
+        Kernel::of(&camera, &pose, &depths, max_weight).update(&mut block, key);
     }
     Some(sums(&block))
 }
@@ -270,5 +279,87 @@ fn whole_blocks(rt: HostRuntime) {
     for (name, r, t, (x, y, z), expected) in rows {
         let found = after_walls(rt.alloc(), r, t, BlockKey { x, y, z });
         assert_eq!(rt; found, Some(expected), "{}", name);
+    }
+}
+
+// Expected by the rule: half of the sum of the two, and so on, and a half goes up.
+#[test]
+fn means_are_rounded(rt: HostRuntime) {
+    let reciprocals = Reciprocals::make();
+    for (w, old, new, expected) in [
+        (0, 32767, -5, -5),
+        (1, 1, 2, 2),
+        (1, -1, -2, -1),
+        (1, -32767, 32767, 0),
+        (2, 0, -1, 0),
+        (3, -32767, 32767, -16383),
+        (254, 0, 127, 0),
+        (254, 0, 128, 1),
+        (254, 32767, -32767, 32510),
+        (255, 32767, 32767, 32767),
+        (255, -32767, -32767, -32767),
+        (255, 0, 128, 1),
+        (255, 0, 127, 0),
+        (255, 0, -128, 0),
+        (255, 0, -129, -1),
+    ] {
+        assert_eq!(rt; reciprocals.mean(w, old, new), expected);
+    }
+}
+
+// Expected by the rule: the floor of 32767 eta / mu, and 32767 from mu on.
+#[test]
+fn distances_are_truncated(rt: HostRuntime) {
+    for (mu, eta, expected) in [
+        (1, -1, -32767),
+        (1, 0, 0),
+        (1, 1, 32767),
+        (1000, -1000, -32767),
+        (1000, -1, -33),
+        (1000, 0, 0),
+        (1000, 1, 32),
+        (1000, 999, 32734),
+        (1000, 1000, 32767),
+        (1000, i64::MAX, 32767),
+        (65536, -65536, -32767),
+        (65536, -65535, -32767),
+        (65536, -2, -1),
+        (65536, 2, 0),
+        (65536, 3, 1),
+        (65536, 65535, 32766),
+        (65536, 65536, 32767),
+        (1000000, -1000000, -32767),
+        (1000000, -999999, -32767),
+        (1000000, -1, -1),
+        (1000000, 30, 0),
+        (1000000, 31, 1),
+        (1000000, 999999, 32766),
+        (1000000, 1000001, 32767),
+    ] {
+        assert_eq!(rt; Truncation::of(mu).tsdf(eta), expected);
+    }
+}
+
+// Expected by the rule: the floor of 500 x / z + 320.5, with x and z in micrometres.
+#[test]
+fn pixels_are_exact_at_their_edges(rt: HostRuntime) {
+    let axis = PixelAxis::of(640, 500 * 65536, 320 * 65536);
+    for (x, z, expected) in [
+        (0, 1000000, Some(320)),
+        (999, 1000000, Some(320)),
+        (1000, 1000000, Some(321)),
+        (-1000, 1000000, Some(320)),
+        (-1001, 1000000, Some(319)),
+        (-641000, 1000000, Some(0)),
+        (-641001, 1000000, None),
+        (638999, 1000000, Some(639)),
+        (639000, 1000000, None),
+        (67108864, 1, None),
+        (-67108864, 1, None),
+    ] {
+        assert_eq!(rt; axis.inside(x, z, inverse(z)), expected);
+        // An estimate by another depth is wrong, and makes no difference.
+        assert_eq!(rt; axis.inside(x, z, inverse(z + 1000)), expected);
+        assert_eq!(rt; axis.inside(x, z, 0.0), expected);
     }
 }
