@@ -1,22 +1,22 @@
-ghost use Rattle.std.specs.Prelude.{◌≡◌, ◌≤◌, ◌<◌, false, pos, IfOk, List, length};
+ghost use Rattle.std.specs.Prelude.{◌≡◌, ◌≤◌, false, pos, IfOk, List, OnOk, length};
 ghost use Rattle.std.specs.Ordering.{int_eq};
 ghost use Rattle.voxel_block.specs.declared.voxel.Voxel.{Voxel};
 ghost use Rattle.camera.specs.Cameras.{IsCamera};
+ghost use Rattle.depth_view.specs.Views.{depth_list};
 ghost use Rattle.fuse_kernel.specs.Updates.{updated};
-ghost use Rattle.band_walk.specs.Bands.{row_keys};
-ghost use Rattle.band_walk.specs.RemainingKeys.{remaining_keys};
-ghost use Rattle.fusion_core.specs.Frames.{IsFrame, is_active as is_active_of, view};
+ghost use Rattle.fusion_core.specs.Frames.{IsFrame, IsKernelOf, is_active as is_active_of, view};
 ghost use Rattle.fusion_core.specs.Fold.{has_size as has_size_of, offered as offered_of};
 
 use crate::refusal::Refusal;
 use crate::settings::Settings;
-use band_walk::BandWalk;
-use camera::Camera;
+use band_walk::Band;
+use camera::{Camera, Slopes};
 use depth_frame::DepthFrame;
+use depth_view::Depths;
 use fixed_geom::{Pose, PoseRows};
-use fuse_kernel::update_block;
+use fuse_kernel::Kernel;
 use std::marker::Model;
-use voxel_block::{Block, BlockKey};
+use voxel_block::{Block, BlockKey, NoMemory};
 
 /// A depth map, the pose and the camera that it was taken by, and what it is fused by.
 #[derive(Drop)]
@@ -100,27 +100,43 @@ impl Frame {
         self.camera.active(&self.pose, key)
     }
 
-    /// The keys of the blocks of row `v` of the frame's truncation band, a key left out that is equal to the one given
-    /// just before it.
-    pub fn row(&self, v: u32) -> BandWalk<'_>
-        requires { v < self.now.depths.height }
-        ensures { remaining_keys result ≡ row_keys (view self.now) v }
+    /// The frame's truncation band, by the slopes of its camera's pixels.
+    pub fn band<'a>(&'a self, slopes: &'a Slopes) -> Band<'a>
+        requires { slopes.now.fields ≡ self.now.camera }
+        ensures camera { result.camera.now ≡ self.now.camera }
+        ensures pose { result.pose.now ≡ self.now.pose }
+        ensures frame { result.frame.now ≡ self.now.depths }
     {
-        BandWalk::over(&self.camera, &self.pose, &self.depths, v)
+        Band::of(&self.camera, &self.pose, slopes, &self.depths)
     }
 
-    /// Updates every voxel of a block.
-    pub fn update(&self, block: &mut Block, key: BlockKey)
+    /// Replaces the depths by those of the frame's pixels. The memory of the depths before is used again.
+    ///
+    /// # Errors
+    ///
+    /// Out of memory. The depths are not known then.
+    pub fn fill(&self, depths: &mut Depths) -> Result<(), NoMemory>
+        ensures { OnOk result (depths.new ≡ depth_list self.now.camera self.now.depths) }
+    {
+        depths.fill(&self.camera, &self.depths)
+    }
+
+    /// The update of blocks by the frame, by the depths of its pixels.
+    pub fn kernel<'a>(&'a self, depths: &'a Depths) -> Kernel<'a>
+        requires { depths.now ≡ depth_list self.now.camera self.now.depths }
+        ensures { IsKernelOf self.now result }
+    {
+        Kernel::of(&self.camera, &self.pose, depths, self.max_weight)
+    }
+
+    /// Updates every voxel of a block, by the frame's kernel.
+    pub fn update(&self, kernel: &Kernel<'_>, block: &mut Block, key: BlockKey)
+        requires { IsKernelOf self.now kernel.now }
         ensures { block.new ≡ updated (view self.now) self.now.max_weight key block.old }
     {
-        update_block(
-            block,
-            key,
-            &self.camera,
-            &self.pose,
-            &self.depths,
-            self.max_weight,
-        );
+        // A frame's depth map has the sides of the camera's image.
+        let _ = &self.version;
+        kernel.update(block, key);
     }
 }
 

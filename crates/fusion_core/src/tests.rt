@@ -1,6 +1,8 @@
 use super::*;
-use camera::{Camera, CameraFields};
+use band_walk::BandWalk;
+use camera::{Camera, CameraFields, Slopes};
 use depth_frame::DepthFrame;
+use depth_view::Depths;
 use fixed_geom::{BadPose, PoseRows, Vec3};
 use std::alloc::Global;
 use std::test::Fail;
@@ -95,7 +97,9 @@ fn a_wall_is_fused(rt: HostRuntime) -> Result<(), Fail> {
         assert_eq!(rt; frame.height(), 1);
         assert_eq!(rt; frame.pose().rows().r, AHEAD);
         let mut ahead = 12;
-        for key in frame.row(0) {
+        let slopes = Slopes::make(alloc, frame.camera())?;
+        let band = frame.band(&slopes);
+        for key in BandWalk::over(&band, 0) {
             assert_eq!(rt;
                 key,
                 BlockKey {
@@ -110,7 +114,9 @@ fn a_wall_is_fused(rt: HostRuntime) -> Result<(), Fail> {
         assert_eq!(rt; ahead, 14);
         let mut block = Block::make(alloc)?;
         let key = BlockKey { x: 0, y: 0, z: 12 };
-        frame.update(&mut block, key);
+        let mut depths = Depths::make(alloc);
+        frame.fill(&mut depths)?;
+        frame.update(&frame.kernel(&depths), &mut block, key);
         assert_eq!(rt; block.get(256), Voxel { f: 0, w: 1 });
         assert!(rt;
             !frame.is_active(BlockKey {

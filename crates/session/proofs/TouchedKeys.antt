@@ -1,17 +1,26 @@
 -- Keys that are touched one after another.
-use Rattle.std.proofs.Common.{◌≡◌, ℕ, suc, ◌+◌, ◌-◌, ◌<◌, ◌≤◌, Bool, true, false, ◌||◌, List, [], ◌∷◌, ◌++◌, fold, refl, sym, ap, ◌∙◌, arith}
+use Rattle.std.proofs.Common.{◌≡◌, ℕ, suc, ◌+◌, ◌-◌, ◌<◌, ◌≤◌, Bool, true, false, ◌||◌, List, [], ◌∷◌, ◌++◌, refl, sym, ap, ◌∙◌, arith, ◌⊎◌, inl, inr}
 use Rattle.std.proofs.Math.Bool.{or-true, or-false, or_assoc}
-use Rattle.std.specs.List.{dedup, flat_map, list_any, range_with_len}
-use Rattle.std.specs.FinMap.{contains_key, contains_key-keys, empty, get-empty, insert, keys, len}
-use Rattle.std.specs.Prelude.{is_some, Result, Ok, Err, OnErr}
+use Rattle.std.specs.Cmp.{eq_by_cmp_equiv}
+use Rattle.std.specs.List.{Contains, flat_map, list_any, range_with_len}
+use Rattle.std.specs.FinMap.{contains_key, insert, len}
+use Rattle.std.specs.Prelude.{Result, Ok, Err, OnErr}
 use Rattle.std.proofs.lemmas.List.Folds.{list_any-append}
+use Rattle.std.proofs.lemmas.Map.Views.{Contains-from_any, list_any-from_Contains}
 use Rattle.voxel_block.specs.declared.key.BlockKey.{BlockKey}
 use Rattle.voxel_block.specs.Keys.{key_cmp, same_key}
 use Rattle.voxel_block.proofs.DistinctKeys.{has_put}
-use Rattle.voxel_block.proofs.KeyLaws.{same_key_is}
-use Rattle.fusion_core.specs.Maps.{BlockMap, touched}
-use Rattle.fusion_core.proofs.TouchLemmas.{has_all, touched_dedup}
-use Rattle.session.specs.Rooms.{Cells, IsSpent, Touches}
+use Rattle.voxel_block.proofs.KeyLaws.{keys_total, same_key_is}
+use Rattle.band_walk.specs.Memos.{IsNoted}
+use Rattle.session.specs.Rooms.{Cells, HasNoted, IsSpent, Touches}
+
+-- ---- the keys of a list
+
+has_it : (b : BlockKey) (ks : List BlockKey) → list_any (same_key b) ks ≡ true → Contains ks b
+has_it b ks e = Contains-from_any same_key_is b ks e
+
+has_key : (b : BlockKey) (ks : List BlockKey) → Contains ks b → list_any (same_key b) ks ≡ true
+has_key b ks e = list_any-from_Contains (eq_by_cmp_equiv keys_total) b ks e
 
 -- ---- one key
 
@@ -56,13 +65,6 @@ module _ (h : Cells) (ks : List BlockKey) where
         ∙ sym (or_assoc (contains_key t b) (list_any (same_key b) r) (list_any (same_key b) tail)) ∙ ap (λ x. x || list_any (same_key b) tail) (s.among b has);
   }
 
--- a list and the same without keys that are equal to the one before
-pub any_dedup : (ks : List BlockKey) (q : BlockKey) → list_any (same_key q) (dedup same_key ks) ≡ list_any (same_key q) ks
-any_dedup ks q =
-    let none : (m : BlockMap) → m ≡ empty → contains_key m q ≡ false = λ m e. ap (λ (n : BlockMap). contains_key n q) e ∙ ap is_some (get-empty key_cmp q) in
-    let bare : (ls : List BlockKey) → contains_key (fold touched empty ls) q ≡ list_any (same_key q) ls = λ ls. has_all empty ls q ∙ ap (λ x. x || list_any (same_key q) ls) (none empty refl) in
-    sym (bare (dedup same_key ks)) ∙ ap (λ (n : BlockMap). contains_key n q) (touched_dedup empty ks) ∙ bare ks
-
 -- the rows from v on
 pub rows_from : (f : ℕ → List BlockKey) (v h : ℕ) → v < h → flat_map f (range_with_len v (h - v)) ≡ f v ++ flat_map f (range_with_len (v + 1) (h - (v + 1)))
 rows_from f v h low =
@@ -72,25 +74,41 @@ rows_from f v h low =
 pub no_rows : (f : ℕ → List BlockKey) (v h : ℕ) → h ≤ v → flat_map f (range_with_len v (h - v)) ≡ []
 no_rows f v h high = (let e : h - v ≡ 0 = omega arith in ap (λ n. flat_map f (range_with_len v n)) e)
 
--- ---- a copy of a table's keys, and the band
+-- ---- the keys of a row that the memo has not noted
 
-module _ (e h t : Cells) (none : e ≡ empty) where
-  pub copied : Touches e (keys h) t → (b : BlockKey) → contains_key t b ≡ contains_key h b
-  copied all b = all b ∙ ap (λ m. contains_key m b || list_any (same_key b) (keys h)) none ∙ ap (λ x. x || list_any (same_key b) (keys h)) (ap is_some (get-empty key_cmp b)) ∙ sym (contains_key-keys h b)
+module _ (memo : List ℕ) (t : Cells) (noted : HasNoted memo t) (row keys : List BlockKey) where
+  -- where each block of a row was noted or is among some keys, which are the row's, the keys touch the row
+  pub row_touched : (u : Cells) → ((b : BlockKey) → Contains row b → IsNoted memo b ⊎ Contains keys b) → ((b : BlockKey) → Contains keys b → Contains row b) → Touches t keys u → Touches t row u
+  row_touched u found only all b = all b ∙ by (list_any (same_key b) keys) (list_any (same_key b) row) refl refl
+    where
+      by : (k r : Bool) → list_any (same_key b) keys ≡ k → list_any (same_key b) row ≡ r → (contains_key t b || k) ≡ (contains_key t b || r)
+      by true true e f = refl
+      by false false e f = refl
+      by true false e f = absurd (let z : true ≡ false = sym (has_key b row (only b (has_it b keys e))) ∙ f in cc)
+      by false true e f = elim (found b (has_it b row f)) [
+        | inl old ↦ (let h : contains_key t b ≡ true = noted b old in ap (λ x. x || false) h ∙ sym (ap (λ x. x || true) h))
+        | inr new ↦ absurd (let z : true ≡ false = sym (has_key b keys new) ∙ e in cc)
+      ]
 
-  pub copy_spent : (ks : List BlockKey) (n : ℕ) → IsSpent e (keys h) n → IsSpent h ks n
-  copy_spent ks n s = record {
-    keys = s.keys;
-    many = s.many;
-    among = λ b has. ap (λ x. x || list_any (same_key b) ks)
-        (contains_key-keys h b ∙ sym (ap (λ m. contains_key m b || list_any (same_key b) (keys h)) none ∙ ap (λ x. x || list_any (same_key b) (keys h)) (ap is_some (get-empty key_cmp b))) ∙ s.among b has);
-  }
+  -- what is noted then is a key of the new table
+  pub noted_next : (memo' : List ℕ) (u : Cells) → ((b : BlockKey) → IsNoted memo' b → IsNoted memo b ⊎ Contains keys b) → Touches t keys u → HasNoted memo' u
+  noted_next memo' u more all b is = elim (more b is) [
+    | inl old ↦ all b ∙ ap (λ x. x || list_any (same_key b) keys) (noted b old)
+    | inr new ↦ all b ∙ ap (λ x. contains_key t b || x) (has_key b keys new) ∙ or-true (contains_key t b)
+  ]
 
-pub band_touched : (h t u : Cells) (ks : List BlockKey) → ((b : BlockKey) → contains_key t b ≡ contains_key h b) → Touches t ks u → Touches h ks u
-band_touched h t u ks same all b = all b ∙ ap (λ x. x || list_any (same_key b) ks) (same b)
-
-pub band_spent : (h t : Cells) (ks : List BlockKey) (n : ℕ) → ((b : BlockKey) → contains_key t b ≡ contains_key h b) → IsSpent t ks n → IsSpent h ks n
-band_spent h t ks n same s = record { keys = s.keys; many = s.many; among = λ b has. ap (λ x. x || list_any (same_key b) ks) (sym (same b)) ∙ s.among b has }
+-- a row is spent where some of its keys are
+pub row_spent : (t : Cells) (row keys : List BlockKey) (n : ℕ) → ((b : BlockKey) → Contains keys b → Contains row b) → IsSpent t keys n → IsSpent t row n
+row_spent t row keys n only s = record {
+  keys = s.keys;
+  many = s.many;
+  among = λ b has. by b (contains_key t b) (list_any (same_key b) keys) refl (s.among b has);
+}
+  where
+    by : (b : BlockKey) (x k : Bool) → list_any (same_key b) keys ≡ k → (x || k) ≡ true → (x || list_any (same_key b) row) ≡ true
+    by b true k e h = refl
+    by b false true e h = has_key b row (only b (has_it b keys e))
+    by b false false e h = absurd (cc)
 
 -- what holds of an error, whatever the result
 pub on_err : {T E : Type 0} (P : Type 0) (r : Result T E) → P → OnErr r P

@@ -9,6 +9,7 @@ use Rattle.voxel_block.specs.Keys.{key_cmp, same_key}
 use Rattle.spatial_hash.specs.Contents.{contents}
 use Rattle.spatial_hash.specs.Table.{KeepsSize}
 use Rattle.band_walk.specs.Bands.{band}
+use Rattle.band_walk.specs.Memos.{IsNoted}
 use Rattle.streamer.specs.Places.{IsPlaced, Places, blocks_of}
 use Rattle.streamer.specs.Plans.{entering, leaving, staying}
 use Rattle.streamer.specs.declared.plan.Plan.{Plan}
@@ -24,6 +25,10 @@ Cells = FinMap key_cmp ℕ
 -- a table has the keys of another and those of a list
 abbrev pub Touches : Cells → List BlockKey → Cells → Type 0
 Touches h ks t = (b : BlockKey) → contains_key t b ≡ (contains_key h b || list_any (same_key b) ks)
+
+-- each key that is noted in a memo is a key of a table
+abbrev pub HasNoted : (memo : List ℕ) → Cells → Type 0
+HasNoted memo t = (b : BlockKey) → IsNoted memo b → IsTrue (contains_key t b)
 
 -- keys of a table and of a list that number at least as many as the nodes
 pub record IsSpent (h : Cells) (ks : List BlockKey) (nodes : ℕ) : Type 0 where

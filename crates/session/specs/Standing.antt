@@ -10,6 +10,7 @@ use Rattle.streamer.specs.Owners.{owner_at}
 use Rattle.streamer.specs.Places.{Places, IsPlaced, blocks_of, cell_of}
 use Rattle.fusion_core.specs.Laws.{HasKeysInReach, HasMapWeightsWithin, IsSound}
 use Rattle.scan_lang.specs.Config.{Config}
+use Rattle.session.specs.declared.scratch.Scratch.{Scratch}
 use Rattle.session.specs.Answers.{SessionView, state_of}
 use Rattle.session.specs.Fold.{settings_of, is_active_last}
 
@@ -28,6 +29,12 @@ pub record IsResident (p : Places) (b : BlockKey) : Type 0 where
 pub record HasSizeOf (c : Config) (t : Table) : Type 0 where
   pub buckets : t.buckets ≡ c.buckets
   pub nodes : t.nodes ≡ 2 * c.heap_blocks + 65
+
+-- what a frame works with is made for a configuration: the table of touched keys has the size of the hash, and the slopes are
+-- those of the camera's pixels
+pub record IsScratchOf (c : Config) (s : Scratch) : Type 0 where
+  pub touched : HasSizeOf c s.touched
+  pub slopes : s.slopes.fields ≡ c.camera
 
 -- what holds of a session between its calls
 pub record Stands (h : SessionView) : Type 0 where

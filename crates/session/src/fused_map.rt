@@ -11,7 +11,7 @@ ghost use Rattle.scan_lang.specs.declared.entry.Entry.TheVariants as entries;
 ghost use Rattle.session.specs.Answers.{frame_cause, session_of, state_of};
 ghost use Rattle.session.specs.Fold.{after, frame_answer, known_voxels as known_voxels_of, place_in, settings_of, totals_of};
 ghost use Rattle.session.specs.Rooms.{StaysPut};
-ghost use Rattle.session.specs.Standing.{HasSizeOf, IsSettled, Stands};
+ghost use Rattle.session.specs.Standing.{IsScratchOf, IsSettled, Stands};
 
 use crate::error::{FrameError, ReadError};
 use crate::fusing::fuse;
@@ -41,7 +41,7 @@ pub fn first_map(alloc: Global, config: &Config) -> Result<(FusedMap, Scratch), 
     ensures places { IfOk result (λ p. p.0.rest ≡ record { table = empty_table config.now.buckets (2 * config.now.heap_blocks + 65); heap = new_cells config.now.heap_blocks; store = record { contents = empty; opened = no_chunks } }) }
     ensures settled { IfOk result (λ p. IsSettled (session_of config.now p.0)) }
     ensures stands { IfOk result (λ p. Stands (session_of config.now p.0)) }
-    ensures scratch { IfOk result (λ p. HasSizeOf config.now p.1.touched) }
+    ensures scratch { IfOk result (λ p. IsScratchOf config.now p.1) }
 {
     let scratch = Scratch::make(alloc, config)?;
     let rest = Rest::make(alloc, config.heap_blocks(), config.buckets())?;
@@ -64,12 +64,12 @@ pub fn fuse_frame(
     depths: DepthFrame,
 ) -> Result<FrameDone, FrameError>
     requires settled { IsSettled (session_of config.now map.old) }
-    requires scratch { HasSizeOf config.now scratch.old.touched }
+    requires scratch { IsScratchOf config.now scratch.old }
     ensures answer { UnlessOutOfMemory frame_cause (λ done. done) result (frame_answer config.now (state_of (session_of config.now map.old)) rows.now depths) }
     ensures state { OnOk result (state_of (session_of config.now map.new) ≡ after config.now (state_of (session_of config.now map.old)) (entries.Frame rows.now depths)) }
     ensures stands { Stands (session_of config.now map.new) }
     ensures settled { IsSettled (session_of config.now map.new) }
-    ensures scratch { HasSizeOf config.now scratch.new.touched }
+    ensures scratch { IsScratchOf config.now scratch.new }
     ensures places { OnErr result (StaysPut map.old.rest map.new.rest) }
     ensures refused { (why : FrameError) → result ≡ Err why → why ≢ FrameError.NoMemory → map.new.rest ≡ map.old.rest }
     ensures frames { OnErr result (map.new.frames ≡ map.old.frames) }
@@ -79,15 +79,9 @@ pub fn fuse_frame(
     ensures pose { has_size config.now.camera depths ≡ true → (why : BadPose) → accepted (pose_of rows.now) ≡ Err why → result ≡ Err (FrameError.BadPose why) }
 {
     let frame = Frame::offered(&settings(config), rows, depths)?;
-    let ready = make_room(
-        alloc,
-        &mut map.rest,
-        &mut scratch.touched,
-        &frame,
-        config.heap_blocks(),
-    )?;
+    let ready = make_room(alloc, &mut map.rest, scratch, &frame, config.heap_blocks())?;
     let resident = ready.plan.need as u32;
-    fuse(&mut map.rest, &frame, ready);
+    fuse(&mut map.rest, &frame, &scratch.depths, ready);
     map.frames = map.frames.saturating_add(1);
     map.last = Some(frame.pose());
     Ok(FrameDone {

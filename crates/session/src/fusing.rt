@@ -4,6 +4,7 @@ ghost use Rattle.voxel_block.specs.declared.key.BlockKey.{BlockKey as Key};
 ghost use Rattle.spatial_hash.specs.Contents.{contents};
 ghost use Rattle.spatial_hash.specs.Table.{KeepsSize};
 ghost use Rattle.streamer.specs.Places.{IsPlaced, blocks_of};
+ghost use Rattle.depth_view.specs.Views.{depth_list};
 ghost use Rattle.fusion_core.specs.Frames.{IsFrame, is_active};
 ghost use Rattle.fusion_core.specs.Maps.{HasWholeBlocks, fuse as fuse_of};
 ghost use Rattle.session.specs.Rooms.{IsReady};
@@ -11,14 +12,16 @@ ghost use Rattle.session.specs.Rooms.{IsReady};
 use crate::moving::{enter_all, leave_all, make_all};
 use crate::room::Ready;
 use crate::updating::update_each;
+use depth_view::Depths;
 use fusion_core::Frame;
 use streamer::Rest;
 
-/// Fuses a frame that is made ready: blocks that leave go to the store first, then stored ones come in, then fresh ones
-/// are made, and those that the frame may see are updated. Takes no memory.
+/// Fuses a frame that is made ready, by the depths of its pixels: blocks that leave go to the store first, then stored
+/// ones come in, then fresh ones are made, and those that the frame may see are updated. Takes no memory.
 ///
 /// A block that is not active, or that the frame can't see, stays as it is under the update.
-pub fn fuse(rest: &mut Rest, frame: &Frame, ready: Ready)
+pub fn fuse(rest: &mut Rest, frame: &Frame, depths: &Depths, ready: Ready)
+    requires depths { depths.now ≡ depth_list frame.now.camera frame.now.depths }
     requires ready { IsReady frame.now rest.old ready }
     requires frame { IsFrame frame.now }
     requires whole { HasWholeBlocks (blocks_of rest.old) }
@@ -33,7 +36,8 @@ pub fn fuse(rest: &mut Rest, frame: &Frame, ready: Ready)
     leave_all(rest, &plan.leave, ready.packs);
     enter_all(rest, &plan.enter);
     make_all(rest, &plan.fresh);
-    update_each(rest, frame, &plan.stay);
-    update_each(rest, frame, &plan.enter);
-    update_each(rest, frame, &plan.fresh);
+    let kernel = frame.kernel(depths);
+    update_each(rest, frame, &kernel, &plan.stay);
+    update_each(rest, frame, &kernel, &plan.enter);
+    update_each(rest, frame, &kernel, &plan.fresh);
 }

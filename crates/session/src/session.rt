@@ -35,7 +35,7 @@ pub struct Session {
 impl Model for Session {
     ghost use Rattle.session.specs.Codes.{coded_session};
     ghost use Rattle.session.specs.Answers.{SessionView, session_of};
-    ghost use Rattle.session.specs.Standing.{HasSizeOf, IsSettled};
+    ghost use Rattle.session.specs.Standing.{IsScratchOf, IsSettled};
 
     ghost Value = { SessionView };
 
@@ -43,7 +43,7 @@ impl Model for Session {
 
     ghost view = { λ s. session_of s.config s.map };
 
-    ghost invariant = { λ s. IsSettled (session_of s.config s.map) × HasSizeOf s.config s.scratch.touched };
+    ghost invariant = { λ s. IsSettled (session_of s.config s.map) × IsScratchOf s.config s.scratch };
 }
 
 impl Session {

@@ -1,53 +1,92 @@
-ghost use Rattle.std.specs.Prelude.{◌≡◌, ◌≤◌, ◌<◌, ◌∷◌, [], OnErr, OnOk};
+ghost use Rattle.std.specs.Prelude.{◌≡◌, ◌≤◌, ◌∷◌, [], Err, OnErr, OnOk};
 ghost use Rattle.std.specs.FinMap.{contains_key, len};
-ghost use Rattle.band_walk.specs.Bands.{band, row_blocks};
+ghost use Rattle.band_walk.specs.BandViews.{view_of_band};
+ghost use Rattle.band_walk.specs.Bands.{band, band as band_of};
 ghost use Rattle.spatial_hash.specs.Contents.{contents};
 ghost use Rattle.spatial_hash.specs.Table.{KeepsSize};
 ghost use Rattle.fusion_core.specs.Frames.{view};
-ghost use Rattle.session.specs.Rooms.{IsSpent, Touches};
+ghost use Rattle.session.specs.declared.touching.TouchError.TheVariants.{Full as full, NoMemory as no_memory};
+ghost use Rattle.session.specs.Rooms.{HasNoted, IsSpent, Touches};
 
+use crate::scratch::Scratch;
+use band_walk::{Band, Memo};
 use fusion_core::Frame;
 use spatial_hash::{Full, HashTable};
+use std::alloc::AllocError;
 use voxel_block::BlockKey;
 
 /// The cell of a touched key, which nothing reads.
 const NO_CELL: u32 = u32::MAX;
 
-/// Makes `touched` a table of the keys of a hash table, which has the same size, and of the frame's truncation band.
-///
-/// Where no entry is left for a key, more blocks would be active than half of its nodes.
-pub fn touch_keys(touched: &mut HashTable, hash: &HashTable, frame: &Frame) -> Result<(), Full>
-    requires buckets { touched.old.buckets ≡ hash.now.buckets }
-    requires nodes { touched.old.nodes ≡ hash.now.nodes }
-    ensures keys { OnOk result (Touches (contents hash.now) (band (view frame.now)) (contents touched.new)) }
-    ensures full { OnErr result (IsSpent (contents hash.now) (band (view frame.now)) hash.now.nodes) }
-    ensures size { KeepsSize touched.old touched.new }
-{
-    touched.copy_from(hash);
-    touch_band(touched, frame)
+/// Why not all keys were touched.
+#[derive(Clone, Copy, Debug, PartialEq, Eq)]
+pub enum TouchError {
+    /// No entry is left for a key.
+    Full,
+    /// Out of memory.
+    NoMemory,
 }
 
-/// Touches the blocks of the frame's truncation band.
-fn touch_band(table: &mut HashTable, frame: &Frame) -> Result<(), Full>
-    ensures ok { OnOk result (Touches (contents table.old) (band (view frame.now)) (contents table.new)) }
-    ensures full { OnErr result (IsSpent (contents table.old) (band (view frame.now)) table.old.nodes) }
+impl From<Full> for TouchError {
+    ghost from_gives = { λ _ e. e ≡ full };
+
+    fn from(_: Full) -> Self {
+        TouchError::Full
+    }
+}
+
+impl From<AllocError> for TouchError {
+    ghost from_gives = { λ _ e. e ≡ no_memory };
+
+    fn from(_: AllocError) -> Self {
+        TouchError::NoMemory
+    }
+}
+
+/// Touches the keys of a hash table and of the frame's truncation band: the table of touched keys, which has the size of
+/// the hash table, has them then and no other.
+pub fn touch_keys(scratch: &mut Scratch, hash: &HashTable, frame: &Frame) -> Result<(), TouchError>
+    requires buckets { scratch.old.touched.buckets ≡ hash.now.buckets }
+    requires nodes { scratch.old.touched.nodes ≡ hash.now.nodes }
+    requires slopes { scratch.old.slopes.fields ≡ frame.now.camera }
+    ensures keys { OnOk result (Touches (contents hash.now) (band (view frame.now)) (contents scratch.new.touched)) }
+    ensures full { result ≡ Err TouchError.Full → IsSpent (contents hash.now) (band (view frame.now)) hash.now.nodes }
+    ensures size { KeepsSize scratch.old.touched scratch.new.touched }
+    ensures slopes { scratch.new.slopes ≡ scratch.old.slopes }
+{
+    scratch.touched.copy_from(hash);
+    scratch.memo.clear();
+    let band = frame.band(&scratch.slopes);
+    touch_band(&mut scratch.touched, &mut scratch.memo, &mut scratch.keys, &band)
+}
+
+/// Touches the blocks of a truncation band. What the memo has noted is touched.
+fn touch_band(
+    table: &mut HashTable,
+    memo: &mut Memo,
+    keys: &mut Vec<BlockKey>,
+    band: &Band<'_>,
+) -> Result<(), TouchError>
+    requires { HasNoted memo.old (contents table.old) }
+    ensures ok { OnOk result (Touches (contents table.old) (band_of (view_of_band band.now)) (contents table.new)) }
+    ensures full { result ≡ Err TouchError.Full → IsSpent (contents table.old) (band_of (view_of_band band.now)) table.old.nodes }
     ensures size { KeepsSize table.old table.new }
 {
-    for v in 0..frame.height() {
-        touch_row(table, frame, v)?;
+    for v in 0..band.frame.height() {
+        band.new_keys(v, memo, keys)?;
+        touch_all(table, keys)?;
     }
     Ok(())
 }
 
-/// Touches the blocks of the pixels of row `v`.
-fn touch_row(table: &mut HashTable, frame: &Frame, v: u32) -> Result<(), Full>
-    requires { v < frame.now.depths.height }
-    ensures ok { OnOk result (Touches (contents table.old) (row_blocks (view frame.now) v) (contents table.new)) }
-    ensures full { OnErr result (IsSpent (contents table.old) (row_blocks (view frame.now) v) table.old.nodes) }
+/// Touches keys.
+fn touch_all(table: &mut HashTable, keys: &[BlockKey]) -> Result<(), Full>
+    ensures ok { OnOk result (Touches (contents table.old) keys.now (contents table.new)) }
+    ensures full { OnErr result (IsSpent (contents table.old) keys.now table.old.nodes) }
     ensures size { KeepsSize table.old table.new }
 {
-    for key in frame.row(v) {
-        touch(table, key)?;
+    for key in keys {
+        touch(table, *key)?;
     }
     Ok(())
 }

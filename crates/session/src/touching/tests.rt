@@ -1,6 +1,9 @@
+use crate::scratch::Scratch;
 use crate::touching::touch_keys;
-use camera::{Camera, CameraFields};
+use band_walk::Memo;
+use camera::{Camera, CameraFields, Slopes};
 use depth_frame::DepthFrame;
+use depth_view::Depths;
 use fixed_geom::{PoseRows, Vec3};
 use fusion_core::{Frame, Settings};
 use spatial_hash::HashTable;
@@ -46,8 +49,15 @@ fn frame(alloc: Global, sample: u16) -> Option<Frame> {
 fn count(alloc: Global, sample: u16, expected: &[i16]) -> Option<(usize, usize)> {
     let frame = frame(alloc, sample)?;
     let hash = HashTable::make(alloc, 1, 67).ok()?;
-    let mut touched = HashTable::make(alloc, 1, 67).ok()?;
-    touch_keys(&mut touched, &hash, &frame).ok()?;
+    let mut scratch = Scratch {
+        slopes: Slopes::make(alloc, frame.camera()).ok()?,
+        touched: HashTable::make(alloc, 1, 67).ok()?,
+        memo: Memo::make(alloc).ok()?,
+        keys: Vec::new(alloc),
+        depths: Depths::make(alloc),
+    };
+    touch_keys(&mut scratch, &hash, &frame).ok()?;
+    let touched = &scratch.touched;
     let mut found = 0_usize;
     for z in expected {
         if touched.find(BlockKey { x: 0, y: 0, z: *z }).is_some() {
