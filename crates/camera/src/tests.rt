@@ -164,7 +164,6 @@ fn a_camera_takes_depths_and_pixels(rt: HostRuntime) -> Result<(), BadCamera> {
     assert_eq!(rt; camera.fields(), BASE);
     is_shared(&camera);
     is_shared(&BASE);
-    is_shared(&PixelRays::of(&camera));
     for (name, raw, depth) in [
         ("no sample", 0, None),
         ("before near", 499, None),
@@ -192,6 +191,66 @@ fn a_camera_takes_depths_and_pixels(rt: HostRuntime) -> Result<(), BadCamera> {
     assert_eq!(rt; camera.project_near(beside), None);
     assert_eq!(rt; camera.project_near(at_camera), None);
     assert_eq!(rt; camera.ray(0, 0, 1000000), ahead);
+    Ok(())
+}
+
+// Whether the slopes of a camera give this point of a ray, and the camera the same.
+fn is_point(camera: &Camera, slopes: &Slopes, u: u32, v: u32, z: i64, expected: Vec3) -> bool {
+    let k = slopes.fields;
+    i64::from(u) < k.width
+        && i64::from(v) < k.height
+        && 1 <= z
+        && z <= k.far + k.mu
+        && k == camera.fields()
+        && slopes.point(u, v, z) == expected
+        && camera.ray(u, v, z) == expected
+}
+
+#[test]
+fn slopes_give_the_points_of_rays(rt: HostRuntime) -> Result<(), Fail> {
+    // The centre is in the middle of the image, one and a half pixels from the outer ones; the focal lengths are 3 and
+    // 5 pixels.
+    let fields = CameraFields {
+        width: 4,
+        height: 4,
+        fx: 3 * 65536,
+        fy: 5 * 65536,
+        cx: 98304,
+        cy: 98304,
+        radius: 2600000,
+        ..BASE
+    };
+    let camera = Camera::make(fields).map_err(|_| Fail::from("camera"))?;
+    let slopes = Slopes::make(rt.alloc(), &camera)?;
+    is_shared(&slopes);
+    for (name, u, v, z, x, y) in [
+        ("the first pixel", 0, 0, 1000000, -500000, -300000),
+        ("the last pixel", 3, 3, 1000000, 500000, 300000),
+        ("the end of the first row", 3, 0, 1000000, 500000, -300000),
+        (
+            "the end of the first column",
+            0,
+            3,
+            1000000,
+            -500000,
+            300000,
+        ),
+        ("between the pixels' halves", 1, 2, 1000000, -166667, 100000),
+        ("next to the camera", 0, 3, 1, -1, 0),
+        (
+            "a multiple of the focal length",
+            2,
+            1,
+            2040000,
+            340000,
+            -204000,
+        ),
+    ] {
+        assert!(rt;
+            is_point(&camera, &slopes, u, v, z, Vec3 { x, y, z }),
+            "{name}"
+        );
+    }
     Ok(())
 }
 
