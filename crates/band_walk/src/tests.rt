@@ -1,9 +1,9 @@
 ghost use Rattle.std.specs.Prelude.{◌≡◌, ◌<◌, ◌*◌, pos, IfOk, vec_len, length};
-ghost use Rattle.depth_view.specs.Views.{FitsImage, view_of};
+ghost use Rattle.band_walk.specs.BandViews.{view_of_band};
 ghost use Rattle.band_walk.specs.Bands.{row_keys};
 
-use crate::BandWalk;
-use camera::{Camera, CameraFields};
+use crate::{Band, BandWalk, Memo};
+use camera::{Camera, CameraFields, Slopes};
 use depth_frame::DepthFrame;
 use fixed_geom::{Pose, PoseRows, Vec3};
 use std::alloc::{AllocError, Global};
@@ -60,25 +60,20 @@ const NARROW: CameraFields = CameraFields {
 };
 
 // The keys of a row.
-fn collected(
-    alloc: Global,
-    camera: &Camera,
-    pose: &Pose,
-    frame: &DepthFrame,
-    v: u32,
-) -> Result<Vec<BlockKey>, AllocError>
-    requires fits { FitsImage camera.now frame.now }
-    requires row { v < frame.now.height }
-    ensures { IfOk result (λ keys. keys.items ≡ row_keys (view_of camera.now pose.now frame.now) v) }
+fn collected(alloc: Global, band: &Band<'_>, v: u32) -> Result<Vec<BlockKey>, AllocError>
+    requires { v < band.now.frame.now.height }
+    ensures { IfOk result (λ keys. keys.items ≡ row_keys (view_of_band band.now) v) }
 {
     let mut keys = Vec::new(alloc);
-    for key in BandWalk::over(camera, pose, frame, v) {
+    for key in BandWalk::over(band, v) {
         keys.push(key)?;
     }
     Ok(keys)
 }
 
-// The keys of row `v` of the samples, taken from the origin. `None` where the camera or the pose is refused, or out of memory.
+// The keys of row `v` of the samples, taken from the origin, each as often as it comes; and what a memo makes of the row:
+// its keys, those that come again with the same memo, and those that come again once it is cleared. `None` where the
+// camera or the pose is refused, or out of memory.
 fn keys(
     alloc: Global,
     fields: CameraFields,
@@ -87,7 +82,7 @@ fn keys(
     height: u32,
     samples: &[u16],
     v: u32,
-) -> Option<Vec<BlockKey>>
+) -> Option<[Vec<BlockKey>; 4]>
     requires width { fields.width ≡ pos width }
     requires height { fields.height ≡ pos height }
     requires samples { length samples.now ≡ width * height }
@@ -100,19 +95,37 @@ fn keys(
     let pose = Pose::accept(&PoseRows { r, t }).ok()?;
     let raw = Vec::from_slice(alloc, samples).ok()?;
     let frame = DepthFrame::make(width, height, raw);
-    collected(alloc, &camera, &pose, &frame, v).ok()
+    let slopes = Slopes::make(alloc, &camera).ok()?;
+    let band = Band::of(&camera, &pose, &slopes, &frame);
+    let walked = collected(alloc, &band, v).ok()?;
+    let mut memo = Memo::make(alloc).ok()?;
+    let (mut new, mut again, mut cleared) = (Vec::new(alloc), Vec::new(alloc), Vec::new(alloc));
+    band.new_keys(v, &mut memo, &mut new).ok()?;
+    band.new_keys(v, &mut memo, &mut again).ok()?;
+    memo.clear();
+    band.new_keys(v, &mut memo, &mut cleared).ok()?;
+    Some([walked, new, again, cleared])
 }
 
-fn same(keys: Option<Vec<BlockKey>>, expected: &[(i16, i16, i16)]) -> bool {
+// Whether these are the keys of a row, with what a memo makes of it: each key once, none again, and each once again.
+fn same(
+    keys: Option<[Vec<BlockKey>; 4]>,
+    expected: &[(i16, i16, i16)],
+    once: &[(i16, i16, i16)],
+) -> bool {
     match keys {
-        Some(keys) => {
-            keys.len() == expected.len()
-                && keys.iter().zip(expected).all(|(key, (x, y, z))| key.x == *x
-                    && key.y == *y
-                    && key.z == *z)
+        Some([walked, new, again, cleared]) => {
+            are(&walked, expected) && are(&new, once) && are(&again, &[]) && are(&cleared, once)
         }
         None => false,
     }
+}
+
+fn are(keys: &Vec<BlockKey>, expected: &[(i16, i16, i16)]) -> bool {
+    keys.len() == expected.len()
+        && keys.iter().zip(expected).all(|(key, (x, y, z))| key.x == *x
+            && key.y == *y
+            && key.z == *z)
 }
 
 #[test]
@@ -128,10 +141,13 @@ fn keys_of_rows(rt: HostRuntime) {
         ("half a turn", BACK, 1000, &[(0, 0, -12), (0, 0, -13)]),
     ] {
         let found = keys(alloc, PIXEL, r, 1, 1, &[sample], 0);
-        assert!(rt; same(found, expected), "{}", name);
+        assert!(rt; same(found, expected, expected), "{}", name);
     }
     let found = keys(alloc, NEAR_PIXEL, AHEAD, 1, 1, &[1], 0);
-    assert!(rt; same(found, &[(0, 0, 0), (0, 0, 1)]), "from the camera on");
+    assert!(rt;
+        same(found, &[(0, 0, 0), (0, 0, 1)], &[(0, 0, 0), (0, 0, 1)]),
+        "from the camera on"
+    );
     for (name, samples, expected) in [
         (
             "the second pixel",
@@ -145,13 +161,14 @@ fn keys_of_rows(rt: HostRuntime) {
         ),
     ] {
         let found = keys(alloc, WIDE, AHEAD, 2, 1, &samples, 0);
-        assert!(rt; same(found, expected), "{}", name);
+        assert!(rt; same(found, expected, expected), "{}", name);
     }
-    for (name, samples, v, expected) in [
+    for (name, samples, v, expected, once) in [
         (
             "a repeat left out between two pixels",
             [1000, 1080, 0, 0],
             0,
+            [(0, 0, 12), (0, 0, 13), (0, 0, 14)].as_slice(),
             [(0, 0, 12), (0, 0, 13), (0, 0, 14)].as_slice(),
         ),
         (
@@ -159,15 +176,17 @@ fn keys_of_rows(rt: HostRuntime) {
             [1000, 1000, 0, 0],
             0,
             &[(0, 0, 12), (0, 0, 13), (0, 0, 12), (0, 0, 13)],
+            [(0, 0, 12), (0, 0, 13)].as_slice(),
         ),
         (
             "a row begins with the last key of the row before",
             [1000, 0, 1080, 0],
             1,
             &[(0, 0, 13), (0, 0, 14)],
+            &[(0, 0, 13), (0, 0, 14)],
         ),
     ] {
         let found = keys(alloc, NARROW, AHEAD, 2, 2, &samples, v);
-        assert!(rt; same(found, expected), "{}", name);
+        assert!(rt; same(found, expected, once), "{}", name);
     }
 }

@@ -1,0 +1,10 @@
+use Rattle.std.proofs.Common.{◌≡◌, ◌⊎◌, refl, subst, arith}
+use Rattle.band_walk.specs.Memos.{IsNoted}
+use Rattle.band_walk.proofs.MemoLemmas.{noted_more}
+use Rattle.band_walk.proofs.memo.Memo.note.Goals as goal
+
+pub returns : goal.returns
+returns c = λ b noted.
+    let words = c.self.inside.words.items in
+    subst (λ m. IsNoted m b ⊎ (b ≡ c.args.key)) c.self.view_is
+    (noted_more words _ c.slot.result c.word-word.result c.args.key (omega (arith, c.slot.ensures, c.self.invariant)) refl c.word-word.ensures.back b noted)
