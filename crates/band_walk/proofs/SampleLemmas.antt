@@ -53,30 +53,6 @@ sample_axis_within w a e n j j0 jn n1 v i =
     down : (w a e q : ℤ) → IsWithin w a → IsWithin w e → ((e -ℤ a) ≤ℤ q) × (q ≤ℤ pos 0) → IsWithin w (a +ℤ q)
     down w a e q v i t = record { low = omega (arith, ints, t.0, t.1); high = omega (arith, ints, t.0, t.1) }
 
--- ---- blocks
-
--- z is from low to high
-pub record IsFrom (low high z : ℤ) : Type 0 where
-  pub above : low ≤ℤ z
-  pub below : z ≤ℤ high
-
--- one coordinate of the block of a point
-pub block_axis_from : (s x : ℤ) → pos 1000 ≤ℤ s → IsWithin (pos 151006226) x → IsFrom (neg_ℤ (pos 18876)) (pos 18875) (floor_div x (pos 8 *ℤ s))
-block_axis_from s x s1 w =
-    let b = pos 8 *ℤ s in
-    let b1 : pos 1 ≤ℤ b = omega (arith, ints) in
-    let f = floor_is x b b1 in
-    record {
-      above = floor_above x b (floor_div x b) (neg_ℤ (pos 18876)) b1 f (low s x s1 w);
-      below = floor_below x b (floor_div x b) (pos 18875) b1 f (high s x s1 w);
-    }
-  where
-    low : (s x : ℤ) → pos 1000 ≤ℤ s → IsWithin (pos 151006226) x → (pos 8 *ℤ s *ℤ neg_ℤ (pos 18876)) ≤ℤ x
-    low s x s1 w = omega (arith, ints)
-
-    high : (s x : ℤ) → pos 1000 ≤ℤ s → IsWithin (pos 151006226) x → x <ℤ (pos 8 *ℤ s *ℤ pos 18875 +ℤ pos 8 *ℤ s)
-    high s x s1 w = omega (arith, ints)
-
 -- ---- samples at the ends
 
 pub first_axis : (a e n : ℤ) → pos 1 ≤ℤ n → a +ℤ floor_div (pos 0 *ℤ (e -ℤ a)) n ≡ a

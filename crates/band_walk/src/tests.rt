@@ -2,6 +2,8 @@ ghost use Rattle.std.specs.Prelude.{◌≡◌, ◌<◌, ◌*◌, pos, IfOk, vec_
 ghost use Rattle.band_walk.specs.BandViews.{view_of_band};
 ghost use Rattle.band_walk.specs.Bands.{row_keys};
 
+use crate::side::BlockSide;
+use crate::steps::{Steps, share};
 use crate::{Band, BandWalk, Memo};
 use camera::{Camera, CameraFields, Slopes};
 use depth_frame::DepthFrame;
@@ -39,6 +41,15 @@ const NEAR_PIXEL: CameraFields = CameraFields {
     mu: 100000,
     radius: 2300000,
     centre: 1050000,
+    ..PIXEL
+};
+
+// The same pixel with voxels of 1 millimetre and a truncation distance of 30 cm, so that its segments have many steps.
+const FINE: CameraFields = CameraFields {
+    voxel: 1000,
+    mu: 300000,
+    radius: 2600000,
+    centre: 1150000,
     ..PIXEL
 };
 
@@ -95,7 +106,9 @@ fn keys(
     let pose = Pose::accept(&PoseRows { r, t }).ok()?;
     let raw = Vec::from_slice(alloc, samples).ok()?;
     let frame = DepthFrame::make(width, height, raw);
-    let slopes = Slopes::make(alloc, &camera).ok()?;
+    let Ok(slopes) = Slopes::make(alloc, &camera) else {
+        return None;
+    };
     let band = Band::of(&camera, &pose, &slopes, &frame);
     let walked = collected(alloc, &band, v).ok()?;
     let mut memo = Memo::make(alloc).ok()?;
@@ -188,5 +201,104 @@ fn keys_of_rows(rt: HostRuntime) {
     ] {
         let found = keys(alloc, NARROW, AHEAD, 2, 2, &samples, v);
         assert!(rt; same(found, expected, once), "{}", name);
+    }
+}
+
+// Whether these keys lie on the axis, one after the other from the first one to the last one.
+fn are_in_line(keys: &Vec<BlockKey>, first: i16, step: i16, count: usize) -> bool {
+    let mut z = first;
+    for key in keys {
+        if key.x != 0 || key.y != 0 || key.z != z {
+            return false;
+        }
+        z = z.wrapping_add(step);
+    }
+    keys.len() == count
+}
+
+#[test]
+fn long_segments_have_each_block(rt: HostRuntime) {
+    // From 70 to 130 cm, by 151 steps over blocks of 8 millimetres.
+    for (name, r, first, step) in [("ahead", AHEAD, 87, 1), ("half a turn", BACK, -88, -1)] {
+        match keys(rt.alloc(), FINE, r, 1, 1, &[1000], 0) {
+            // 16 blocks in line have slots of their own, so each of these has lost its slot when it comes again.
+            Some([walked, new, again, cleared]) => {
+                for found in [walked, new, again, cleared] {
+                    assert!(rt; are_in_line(&found, first, step, 76), "{}", name);
+                }
+            }
+            None => assert!(rt; false, "{}", name),
+        }
+    }
+}
+
+// The block of a point on the first axis.
+fn block_on_axis(side: BlockSide, x: i64) -> Option<i16> {
+    if x < -151_006_226 || x > 151_006_226 {
+        return None;
+    }
+    let key = side.block_at(Vec3 { x, y: 0, z: 0 });
+    Some(key.x)
+}
+
+#[test]
+fn points_at_the_sides_of_blocks(rt: HostRuntime) {
+    let (fine, coarse) = (BlockSide::of(1000), BlockSide::of(100000));
+    for (name, side, x, expected) in [
+        ("the origin", fine, 0, 0),
+        ("before a side", fine, 7999, 0),
+        ("at a side", fine, 8000, 1),
+        ("below 0", fine, -1, -1),
+        ("at a side below 0", fine, -8000, -1),
+        ("after a side below 0", fine, -8001, -2),
+        ("the farthest point", fine, 151_006_226, 18875),
+        ("the farthest point below 0", fine, -151_006_226, -18876),
+        ("before a side of a large block", coarse, 799_999, 0),
+        ("at a side of a large block", coarse, 800_000, 1),
+        ("below 0, in a large block", coarse, -1, -1),
+    ] {
+        assert_eq!(rt; block_on_axis(side, x), Some(expected), "{}", name);
+    }
+}
+
+// One of `n` equal parts of an offset.
+fn part(steps: &Steps, offset: i64, n: u32) -> Option<i64> {
+    if n < 2 || n > 75504 {
+        return None;
+    }
+    let most = 302_012_452 * i64::from(n);
+    if offset < -most || offset > most {
+        return None;
+    }
+    Some(share(offset, n, steps.reciprocal(n)))
+}
+
+#[test]
+fn shares_go_down(rt: HostRuntime) {
+    let steps = Steps::make();
+    for (name, offset, n, expected) in [
+        ("nothing", 0, 2, 0),
+        ("a half", 7, 2, 3),
+        ("a half below 0", -7, 2, -4),
+        ("a whole number below 0", -9, 3, -3),
+        ("just less below 0", -10, 3, -4),
+        ("63 steps", 62, 63, 0),
+        ("64 steps", 64, 64, 1),
+        ("64 steps below 0", -1, 64, -1),
+        (
+            "the longest offset",
+            302_012_452 * 75504,
+            75504,
+            302_012_452,
+        ),
+        ("one less", 302_012_452 * 75504 - 1, 75504, 302_012_451),
+        (
+            "the longest offset below 0",
+            -302_012_452 * 75504,
+            75504,
+            -302_012_452,
+        ),
+    ] {
+        assert_eq!(rt; part(&steps, offset, n), Some(expected), "{}", name);
     }
 }
