@@ -1,5 +1,6 @@
-ghost use Rattle.std.specs.Prelude.{◌^◌, pos};
+ghost use Rattle.std.specs.Prelude.{◌≡◌, ◌^◌, pos};
 ghost use Rattle.fixed_geom.specs.Vectors.{AreWithin, IsWithin};
+ghost use Rattle.camera.specs.Cameras.{max_depth};
 
 use super::*;
 use fixed_geom::{Pose, PoseRows, Vec3};
@@ -194,16 +195,16 @@ fn a_camera_takes_depths_and_pixels(rt: HostRuntime) -> Result<(), BadCamera> {
     Ok(())
 }
 
-// Whether the slopes of a camera give this point of a ray, and the camera the same.
-fn is_point(camera: &Camera, slopes: &Slopes, u: u32, v: u32, z: i64, expected: Vec3) -> bool {
-    let k = slopes.fields;
-    i64::from(u) < k.width
-        && i64::from(v) < k.height
-        && 1 <= z
-        && z <= k.far + k.mu
-        && k == camera.fields()
-        && slopes.point(u, v, z) == expected
-        && camera.ray(u, v, z) == expected
+// The point that slopes of 4 by 4 pixels give. `None` where there is no such pixel or depth.
+fn point_of(slopes: &Slopes, u: u32, v: u32, z: i64) -> Option<Vec3>
+    requires width { slopes.now.fields.width ≡ pos 4 }
+    requires height { slopes.now.fields.height ≡ pos 4 }
+    requires depth { max_depth slopes.now.fields ≡ pos 2040000 }
+{
+    if u >= 4 || v >= 4 || z < 1 || z > 2040000 {
+        return None;
+    }
+    Some(slopes.point(u, v, z))
 }
 
 #[test]
@@ -223,6 +224,12 @@ fn slopes_give_the_points_of_rays(rt: HostRuntime) -> Result<(), Fail> {
     let camera = Camera::make(fields).map_err(|_| Fail::from("camera"))?;
     let slopes = Slopes::make(rt.alloc(), &camera)?;
     is_shared(&slopes);
+    let corner = Vec3 {
+        x: 500000,
+        y: 300000,
+        z: 1000000,
+    };
+    assert_eq!(rt; camera.ray(3, 3, 1000000), corner);
     for (name, u, v, z, x, y) in [
         ("the first pixel", 0, 0, 1000000, -500000, -300000),
         ("the last pixel", 3, 3, 1000000, 500000, 300000),
@@ -246,10 +253,8 @@ fn slopes_give_the_points_of_rays(rt: HostRuntime) -> Result<(), Fail> {
             -204000,
         ),
     ] {
-        assert!(rt;
-            is_point(&camera, &slopes, u, v, z, Vec3 { x, y, z }),
-            "{name}"
-        );
+        let expected = Some(Vec3 { x, y, z });
+        assert_eq!(rt; point_of(&slopes, u, v, z), expected, "{name}");
     }
     Ok(())
 }
