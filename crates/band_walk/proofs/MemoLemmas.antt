@@ -18,20 +18,17 @@ none_noted memo n is b noted =
     let none : None ≡ Some b = ap key_of (sym zero) ∙ noted.is in
     absurd (cc)
 
-same_key : (b key : BlockKey) (o : Option BlockKey) → o ≡ Some key → o ≡ Some b → b ≡ key
-same_key b key o e f = cc
-
 -- what is noted once a word is written
-pub noted_more : (memo memo' : List ℕ) (at w : ℕ) (key : BlockKey) → at < length memo → memo' ≡ set memo at w → key_of w ≡ Some key → (b : BlockKey) → IsNoted memo' b → IsNoted memo b ⊎ (b ≡ key)
-noted_more memo memo' at w key low is word b noted = by (cases_eq noted.at at)
+pub noted_more : (memo memo' : List ℕ) (at w : ℕ) → at < length memo → memo' ≡ set memo at w → (b : BlockKey) → IsNoted memo' b → IsNoted memo b ⊎ (key_of w ≡ Some b)
+noted_more memo memo' at w low is b noted = by (cases_eq noted.at at)
   where
     read : key_of (get_or (set memo at w) noted.at 0) ≡ Some b
     read = subst (λ m. key_of (get_or m noted.at 0) ≡ Some b) is noted.is
 
-    by : (noted.at ≡ at) ⊎ (noted.at ≢ at) → IsNoted memo b ⊎ (b ≡ key)
+    by : (noted.at ≡ at) ⊎ (noted.at ≢ at) → IsNoted memo b ⊎ (key_of w ≡ Some b)
     by (inl e) =
         let there : get_or (set memo at w) noted.at 0 ≡ w = ap (λ i. get_or (set memo at w) i 0) e ∙ get_or-set_same memo at w 0 low in
-        inr (same_key b key (key_of w) word (subst (λ x. key_of x ≡ Some b) there read))
+        inr (subst (λ x. key_of x ≡ Some b) there read)
     by (inr ne) = inl (record {
       at = noted.at;
       inside = subst (λ l. noted.at < l) (ap length is ∙ length-set memo at w) noted.inside;
@@ -93,17 +90,20 @@ only_one key b c = by (Contains-push_cases [] key b c)
 pub added_noted : (m : List ℕ) (k : List BlockKey) (key : BlockKey) → IsNoted m key → HasAdded (key ∷ []) m k m k
 added_noted m k key n = record { found = λ b c. inl (subst (IsNoted m) (only_one key b c) n); only = λ b c. inl c; grown = grown_none m k }
 
--- a key that was pushed and noted
-pub added_pushed : (m m' : List ℕ) (k k' : List BlockKey) (key : BlockKey) → k' ≡ k ++ key ∷ [] → ((b : BlockKey) → IsNoted m' b → IsNoted m b ⊎ (b ≡ key)) → HasAdded (key ∷ []) m k m' k'
-added_pushed m m' k k' key is noted = record {
+-- a key that was pushed and noted, by its word w
+pub added_pushed : (m m' : List ℕ) (k k' : List BlockKey) (w : ℕ) (key : BlockKey) → key_of w ≡ Some key → k' ≡ k ++ key ∷ [] → ((b : BlockKey) → IsNoted m' b → IsNoted m b ⊎ (key_of w ≡ Some b)) → HasAdded (key ∷ []) m k m' k'
+added_pushed m m' k k' w key word is noted = record {
   found = λ b c. inr (subst (λ ks. Contains ks b) (sym is) (Contains-append_right k (key ∷ []) b c));
   only = λ b c. Contains-append_cases k (key ∷ []) b (subst (λ ks. Contains ks b) is c);
   grown = record { noted = λ b n. by b (noted b n); kept = λ b c. subst (λ ks. Contains ks b) (sym is) (Contains-append_left k (key ∷ []) b c) };
 }
   where
-    by : (b : BlockKey) → IsNoted m b ⊎ (b ≡ key) → IsNoted m b ⊎ Contains k' b
+    same : (b : BlockKey) (o : Option BlockKey) → o ≡ Some key → o ≡ Some b → key ≡ b
+    same b o e f = cc
+
+    by : (b : BlockKey) → IsNoted m b ⊎ (key_of w ≡ Some b) → IsNoted m b ⊎ Contains k' b
     by b (inl n) = inl n
-    by b (inr e) = inr (subst (Contains k') (sym e) (subst (λ ks. Contains ks key) (sym is) (Contains-push k key)))
+    by b (inr e) = inr (subst (Contains k') (same b (key_of w) word e) (subst (λ ks. Contains ks key) (sym is) (Contains-push k key)))
 
 -- keys and memo as they were, where no key could be pushed
 pub grown_same : (m m' : List ℕ) (k k' : List BlockKey) → m' ≡ m → k' ≡ k → IsGrown m k m' k'

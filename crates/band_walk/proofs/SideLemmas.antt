@@ -5,9 +5,10 @@ use Rattle.std.specs.Prelude.{ℤ, pos, negsuc, ◌+ℤ◌, ◌-ℤ◌, ◌*ℤ�
 use Rattle.std.proofs.lemmas.Int.{ints, to_z-of_z}
 use Rattle.std.proofs.lemmas.Nat.{mul-le}
 use mir.Val.{SFits}
-use mir.Syntax.{w16, w64}
+use mir.Syntax.{w64}
 use Rattle.fixed_geom.specs.Division.{floor_div}
-use Rattle.fixed_geom.proofs.Machine.{read, read16}
+use Rattle.camera.specs.Grid.{block}
+use Rattle.fixed_geom.proofs.Machine.{read}
 use Rattle.fixed_geom.proofs.Raised.{raised_floor}
 
 -- ---- the product
@@ -42,10 +43,14 @@ lowered_is (pos s) p n q least is eq = ap (λ z. pos z -ℤ pos 32768) eq ∙ sy
 lowered_is (negsuc s) p n q least is eq = absurd (omega (arith, ints))
 
 -- as the machine reads it
-pub axis_read : (voxel p r : ℤ) (n q : ℕ) → pos 1000 ≤ℤ voxel → voxel ≤ℤ pos 100000 → SFits w64 p → SFits w16 r → pos n ≡ read p +ℤ pos 262144 *ℤ read voxel → q ≡ n / (8 * unsigned_abs (read voxel)) → r ≡ pos q -ℤ pos 32768 → read16 r ≡ floor_div p (pos 8 *ℤ voxel)
-axis_read voxel p r n q least most fits fr is eq er =
+pub axis_read : (voxel p : ℤ) (n q : ℕ) → pos 1000 ≤ℤ voxel → voxel ≤ℤ pos 100000 → SFits w64 p → pos n ≡ read p +ℤ pos 262144 *ℤ read voxel → q ≡ n / (8 * unsigned_abs (read voxel)) → pos q -ℤ pos 32768 ≡ floor_div p (pos 8 *ℤ voxel)
+axis_read voxel p n q least most fits is eq =
     let one : read voxel ≡ voxel = omega (arith, ints) in
-    to_z-of_z w16 r fr ∙ er ∙ lowered_is voxel p n q least (is ∙ rw (one, to_z-of_z w64 p fits) refl) (eq ∙ rw one refl)
+    lowered_is voxel p n q least (is ∙ rw (one, to_z-of_z w64 p fits) refl) (eq ∙ rw one refl)
+
+-- the block of three coordinates
+pub same_block : (x y z a b c : ℤ) → x ≡ a → y ≡ b → z ≡ c → block x y z ≡ block a b c
+same_block x y z a b c e f g = rw (e, f, g) refl
 
 -- ---- halves of a block
 

@@ -19,6 +19,9 @@ range_next j m h = let e : m - j ≡ suc (m - (j + 1)) = omega arith in ap (rang
 
 -- ---- lists over them
 
+pub map_next : {A : Type 0} (f : ℕ → A) (j m : ℕ) → j < m → map f (range_with_len j (m - j)) ≡ f j ∷ map f (range_with_len (j + 1) (m - (j + 1)))
+map_next f j m h = ap (map f) (range_next j m h)
+
 pub flat_map_next : {A : Type 0} (f : ℕ → List A) (j m : ℕ) → j < m → flat_map f (range_with_len j (m - j)) ≡ f j ++ flat_map f (range_with_len (j + 1) (m - (j + 1)))
 flat_map_next f j m h = ap (flat_map f) (range_next j m h)
 

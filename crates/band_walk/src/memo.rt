@@ -1,8 +1,9 @@
-ghost use Rattle.std.specs.Prelude.{◌≡◌, ◌≢◌, ◌<◌, ◌⊎◌, IsTrue, IfOk, [], ◌∷◌};
+ghost use Rattle.std.specs.Prelude.{◌≡◌, ◌≢◌, ◌<◌, ◌⊎◌, IsTrue, IfOk, Some, [], ◌∷◌};
 ghost use Rattle.voxel_block.specs.declared.key.BlockKey.{BlockKey as BlockKeyOf};
-ghost use Rattle.voxel_block.specs.Words.{key_of};
+ghost use Rattle.voxel_block.specs.Words.{key_of, key_with};
 ghost use Rattle.band_walk.specs.Memos.{HasAdded, IsGrown, IsNoted};
 
+use crate::side::RaisedKey;
 use std::alloc::{AllocError, Global};
 use std::marker::Model;
 use voxel_block::BlockKey;
@@ -44,30 +45,33 @@ impl Memo {
     }
 
     /// Notes a key, and adds it to `keys`, unless the memo has noted it. Both stay as they are where memory is wanting.
-    pub(crate) fn add(&mut self, key: BlockKey, keys: &mut Vec<BlockKey>) -> Result<(), AllocError>
-        ensures added { IfOk result (λ _. HasAdded (key ∷ []) self.old keys.old.items self.new keys.new.items) }
+    pub(crate) fn add(
+        &mut self,
+        block: RaisedKey,
+        keys: &mut Vec<BlockKey>,
+    ) -> Result<(), AllocError>
+        ensures added { IfOk result (λ _. HasAdded (key_with block.x block.y block.z ∷ []) self.old keys.old.items self.new keys.new.items) }
         ensures grown { IsGrown self.old keys.old.items self.new keys.new.items }
     {
-        if self.has(key) {
+        let word = block.word();
+        if self.has(word) {
             return Ok(());
         }
-        keys.push(key)?;
-        self.note(key);
+        keys.push(block.key())?;
+        self.note(word);
         Ok(())
     }
 
-    /// Whether the memo has noted a key.
-    fn has(&self, key: BlockKey) -> bool
-        ensures { IsTrue result → IsNoted self.now key }
+    /// Whether the memo has noted a key, by its word.
+    fn has(&self, word: u64) -> bool
+        ensures { (b : BlockKeyOf) → IsTrue result → key_of word ≡ Some b → IsNoted self.now b }
     {
-        let word = key.word();
         self.words[slot(word)] == word
     }
 
-    fn note(&mut self, key: BlockKey)
-        ensures { (b : BlockKeyOf) → IsNoted self.new b → IsNoted self.old b ⊎ (b ≡ key) }
+    fn note(&mut self, word: u64)
+        ensures { (b : BlockKeyOf) → IsNoted self.new b → IsNoted self.old b ⊎ (key_of word ≡ Some b) }
     {
-        let word = key.word();
         self.words[slot(word)] = word;
     }
 }

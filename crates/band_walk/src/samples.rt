@@ -49,7 +49,7 @@ impl Samples {
             return None;
         }
         let sample = self.segment.sample(self.j);
-        let key = self.side.block_at(sample);
+        let key = self.side.block_at(sample).key();
         self.j += 1;
         Some(key)
     }

@@ -1,7 +1,8 @@
 //! The block that a world point lies in, by the reciprocal of a block's side.
-ghost use Rattle.std.specs.Prelude.{◌≡◌, ◌≤◌, ◌<◌, ◌+◌, ◌-◌, ◌*◌, ◌/◌, ◌^◌, pos, ◌+ℤ◌, ◌-ℤ◌, ◌*ℤ◌, ◌≤ℤ◌, unsigned_abs};
+ghost use Rattle.std.specs.Prelude.{◌≡◌, ◌≤◌, ◌<◌, ◌+◌, ◌-◌, ◌*◌, ◌/◌, ◌^◌, pos, Some, ◌+ℤ◌, ◌-ℤ◌, ◌*ℤ◌, ◌≤ℤ◌, unsigned_abs};
 ghost use Rattle.fixed_geom.specs.Division.{floor_div};
 ghost use Rattle.fixed_geom.specs.Vectors.{AreWithin, IsWithin};
+ghost use Rattle.voxel_block.specs.Words.{key_of, key_with};
 ghost use Rattle.camera.specs.Grid.{block_at as block_at_of};
 
 use fixed_geom::{Vec3, quotient, reciprocal};
@@ -30,27 +31,28 @@ impl BlockSide {
     }
 
     /// The block that a point lies in.
-    pub(crate) fn block_at(self, p: Vec3) -> BlockKey
+    pub(crate) fn block_at(self, p: Vec3) -> RaisedKey
         requires { AreWithin (pos 151006226) p }
-        ensures { result ≡ block_at_of self.voxel p }
+        ensures { key_with result.x result.y result.z ≡ block_at_of self.voxel p }
     {
-        BlockKey {
-            x: self.block_axis(p.x),
-            y: self.block_axis(p.y),
-            z: self.block_axis(p.z),
+        RaisedKey {
+            x: self.raised_axis(p.x),
+            y: self.raised_axis(p.y),
+            z: self.raised_axis(p.z),
         }
     }
 
-    /// One coordinate of it.
-    fn block_axis(self, x: i64) -> i16
+    /// One coordinate of it, raised.
+    fn raised_axis(self, x: i64) -> u64
         requires { IsWithin (pos 151006226) x }
-        ensures { result ≡ floor_div x (pos 8 *ℤ self.voxel) }
+        ensures value { pos result -ℤ pos 32768 ≡ floor_div x (pos 8 *ℤ self.voxel) }
+        ensures bound { result < 65536 }
     {
-        lowered(whole_blocks(
+        whole_blocks(
             raised(x, self.voxel),
             8 * self.voxel as u64,
             self.reciprocal,
-        ))
+        )
     }
 
     /// The number of whole halves of a block in an offset.
@@ -60,6 +62,37 @@ impl BlockSide {
         ensures bound { result ≤ 75503 }
     {
         few_blocks(2 * offset, 8 * self.voxel as u64, self.reciprocal) as u32
+    }
+}
+
+/// The key of a block, each coordinate raised by 32768 so that it is not negative.
+#[derive(Clone, Copy)]
+pub(crate) struct RaisedKey {
+    x: u64,
+    y: u64,
+    z: u64,
+    ghost x_bound: { x < 65536 },
+    ghost y_bound: { y < 65536 },
+    ghost z_bound: { z < 65536 },
+}
+
+impl RaisedKey {
+    /// The key's word.
+    pub(crate) fn word(self) -> u64
+        ensures { key_of result ≡ Some (key_with self.x self.y self.z) }
+    {
+        1 + self.x * 0x1_0000_0000 + self.y * 0x1_0000 + self.z
+    }
+
+    /// The key.
+    pub(crate) fn key(self) -> BlockKey
+        ensures { result ≡ key_with self.x self.y self.z }
+    {
+        BlockKey {
+            x: lowered(self.x),
+            y: lowered(self.y),
+            z: lowered(self.z),
+        }
     }
 }
 

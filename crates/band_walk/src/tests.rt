@@ -237,7 +237,7 @@ fn block_on_axis(side: BlockSide, x: i64) -> Option<i16> {
     if x < -151_006_226 || x > 151_006_226 {
         return None;
     }
-    let key = side.block_at(Vec3 { x, y: 0, z: 0 });
+    let key = side.block_at(Vec3 { x, y: 0, z: 0 }).key();
     Some(key.x)
 }
 
