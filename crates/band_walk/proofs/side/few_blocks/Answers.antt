@@ -1,4 +1,4 @@
-use Rattle.std.proofs.Common.{◌≤◌, ◌<◌, arith, subst, sym}
+use Rattle.std.proofs.Common.{◌≤◌, arith, subst, sym}
 use Rattle.band_walk.proofs.SideLemmas.{below_quotient, twice_small}
 use Rattle.band_walk.proofs.side.few_blocks.Goals as goal
 

@@ -1,4 +1,4 @@
-use Rattle.std.proofs.Common.{◌≡◌, ◌∙◌, ℕ, List, [], sym, subst, arith}
+use Rattle.std.proofs.Common.{◌≡◌, ℕ, List, [], subst, arith}
 use Rattle.std.specs.List.{range_with_len, flat_map}
 use Rattle.voxel_block.specs.declared.key.BlockKey.{BlockKey}
 use Rattle.band_walk.specs.BandViews.{view_of_band}

@@ -1,4 +1,4 @@
-use Rattle.std.proofs.Common.{◌≡◌, ◌∙◌, ◌∷◌, [], ◌++◌, ap}
+use Rattle.std.proofs.Common.{◌∙◌, ◌∷◌, [], ◌++◌, ap}
 use Rattle.voxel_block.specs.Words.{key_with}
 use Rattle.band_walk.proofs.MemoLemmas.{added_pushed}
 use Rattle.band_walk.proofs.memo.Memo.add.Goals as goal

@@ -1,4 +1,3 @@
-use Rattle.std.proofs.Common.{rules}
 use Rattle.band_walk.proofs.MemoLemmas.{none_noted}
 use Rattle.band_walk.proofs.memo.Memo.make.Goals as goal
 

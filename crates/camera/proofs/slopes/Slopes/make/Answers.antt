@@ -1,4 +1,4 @@
-use Rattle.std.proofs.Common.{◌≡◌, subst, sym, rules, arith}
+use Rattle.std.proofs.Common.{subst, sym, arith}
 use Rattle.std.proofs.lemmas.Int.{ints}
 use Rattle.camera.specs.Cameras.{IsCamera}
 use Rattle.camera.proofs.SlopeLemmas.{centre_high, slopes_made, unit_made}
