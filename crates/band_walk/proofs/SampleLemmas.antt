@@ -1,11 +1,14 @@
 -- The samples of a segment: they lie between its ends, and their blocks fit 16 bits.
-use Rattle.std.proofs.Common.{◌≡◌, arith}
+use Rattle.std.proofs.Common.{◌≡◌, ◌∙◌, ℕ, ◌≤◌, ap, sym, arith}
 use Rattle.std.specs.Prelude.{ℤ, pos, neg_ℤ, ◌+ℤ◌, ◌-ℤ◌, ◌*ℤ◌, ◌≤ℤ◌, ◌<ℤ◌}
 use Rattle.std.proofs.lemmas.Int.{ints, by_lt_z}
 use Rattle.fixed_geom.specs.Division.{IsFloor, floor_div}
 use Rattle.fixed_geom.specs.Vectors.{IsWithin}
 use Rattle.fixed_geom.proofs.Whole.{mul_neg, mul_turn, mul_order}
-use Rattle.fixed_geom.proofs.Floors.{floor_is, floor_above, floor_below}
+use Rattle.fixed_geom.proofs.Floors.{floor_is, floor_above, floor_below, floor_div_is}
+use Rattle.fixed_geom.proofs.Wide.{same_vec}
+use Rattle.fixed_geom.specs.declared.vector.Vec3.{Vec3}
+use Rattle.band_walk.specs.Bands.{segment_point}
 
 -- ---- samples
 
@@ -50,26 +53,32 @@ sample_axis_within w a e n j j0 jn n1 v i =
     down : (w a e q : ℤ) → IsWithin w a → IsWithin w e → ((e -ℤ a) ≤ℤ q) × (q ≤ℤ pos 0) → IsWithin w (a +ℤ q)
     down w a e q v i t = record { low = omega (arith, ints, t.0, t.1); high = omega (arith, ints, t.0, t.1) }
 
--- ---- blocks
+-- ---- samples at the ends
 
--- z is from low to high
-pub record IsFrom (low high z : ℤ) : Type 0 where
-  pub above : low ≤ℤ z
-  pub below : z ≤ℤ high
+pub first_axis : (a e n : ℤ) → pos 1 ≤ℤ n → a +ℤ floor_div (pos 0 *ℤ (e -ℤ a)) n ≡ a
+first_axis a e n n1 =
+    let zero : floor_div (pos 0 *ℤ (e -ℤ a)) n ≡ pos 0 = floor_div_is (pos 0 *ℤ (e -ℤ a)) n (pos 0) n1 (record { below = omega (arith, ints); above = omega (arith, ints) }) in
+    ap (λ q. a +ℤ q) zero ∙ (omega (arith, ints))
 
--- one coordinate of the block of a point
-pub block_axis_from : (s x : ℤ) → pos 1000 ≤ℤ s → IsWithin (pos 151006226) x → IsFrom (neg_ℤ (pos 18876)) (pos 18875) (floor_div x (pos 8 *ℤ s))
-block_axis_from s x s1 w =
-    let b = pos 8 *ℤ s in
-    let b1 : pos 1 ≤ℤ b = omega (arith, ints) in
-    let f = floor_is x b b1 in
-    record {
-      above = floor_above x b (floor_div x b) (neg_ℤ (pos 18876)) b1 f (low s x s1 w);
-      below = floor_below x b (floor_div x b) (pos 18875) b1 f (high s x s1 w);
-    }
+pub last_axis : (a e n : ℤ) → pos 1 ≤ℤ n → a +ℤ floor_div (n *ℤ (e -ℤ a)) n ≡ e
+last_axis a e n n1 = plain a e (floor_div (n *ℤ (e -ℤ a)) n) (floor_div_is (n *ℤ (e -ℤ a)) n (e -ℤ a) n1 (record { below = same (n *ℤ (e -ℤ a)); above = more n (n *ℤ (e -ℤ a)) n1 }))
   where
-    low : (s x : ℤ) → pos 1000 ≤ℤ s → IsWithin (pos 151006226) x → (pos 8 *ℤ s *ℤ neg_ℤ (pos 18876)) ≤ℤ x
-    low s x s1 w = omega (arith, ints)
+    plain : (a e q : ℤ) → q ≡ e -ℤ a → a +ℤ q ≡ e
+    plain a e q is = omega (arith, ints)
 
-    high : (s x : ℤ) → pos 1000 ≤ℤ s → IsWithin (pos 151006226) x → x <ℤ (pos 8 *ℤ s *ℤ pos 18875 +ℤ pos 8 *ℤ s)
-    high s x s1 w = omega (arith, ints)
+    same : (x : ℤ) → x ≤ℤ x
+    same x = omega (arith, ints)
+
+    more : (n x : ℤ) → pos 1 ≤ℤ n → x <ℤ (x +ℤ n)
+    more n x n1 = omega (arith, ints)
+
+-- sample 0 is the start, and sample n the end
+pub first_sample : (a e : Vec3) (n : ℕ) → 1 ≤ n → a ≡ segment_point a e n 0
+first_sample a e n least =
+    let some : pos 1 ≤ℤ pos n = omega (arith, ints) in
+    sym (same_vec _ _ _ _ _ _ (first_axis a.x e.x (pos n) some) (first_axis a.y e.y (pos n) some) (first_axis a.z e.z (pos n) some))
+
+pub last_sample : (a e : Vec3) (n : ℕ) → 1 ≤ n → e ≡ segment_point a e n n
+last_sample a e n least =
+    let some : pos 1 ≤ℤ pos n = omega (arith, ints) in
+    sym (same_vec _ _ _ _ _ _ (last_axis a.x e.x (pos n) some) (last_axis a.y e.y (pos n) some) (last_axis a.z e.z (pos n) some))

@@ -1,7 +1,7 @@
 -- The samples of a segment and the pixels of a row, one after the other.
 use Rattle.std.proofs.Common.{◌≡◌, ℕ, ◌+◌, ◌-◌, ◌<◌, zero, suc, ap, ◌∙◌, arith, List, [], ◌∷◌, ◌++◌, map, zero-add}
 use Rattle.std.specs.List.{range_with_len, flat_map}
-use Rattle.std.proofs.lemmas.List.{append-nil}
+use Rattle.std.proofs.lemmas.List.{append-nil, map-append}
 use Rattle.std.proofs.lemmas.Grind.{flat_map-append}
 
 -- ---- ranges
@@ -24,3 +24,9 @@ map_next f j m h = ap (map f) (range_next j m h)
 
 pub flat_map_next : {A : Type 0} (f : ℕ → List A) (j m : ℕ) → j < m → flat_map f (range_with_len j (m - j)) ≡ f j ++ flat_map f (range_with_len (j + 1) (m - (j + 1)))
 flat_map_next f j m h = ap (flat_map f) (range_next j m h)
+
+pub map_one_more : {A : Type 0} (f : ℕ → A) (n : ℕ) → map f (range_with_len 0 (n + 1)) ≡ map f (range_with_len 0 n) ++ f n ∷ []
+map_one_more f n = ap (λ m. map f (range_with_len 0 m)) (the_next n) ∙ ap (map f) (range_one_more 0 n n (zero-add n)) ∙ map-append f (range_with_len 0 n) (n ∷ [])
+  where
+    the_next : (n : ℕ) → n + 1 ≡ suc n
+    the_next n = omega arith

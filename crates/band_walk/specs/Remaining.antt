@@ -1,56 +1,49 @@
 -- What remains of the parts of a walk.
-use Rattle.std.specs.Prelude.{ℕ, ◌+◌, ◌-◌, ◌≡◌, ◌<◌, ◌≤◌, pos, ◌≤ℤ◌, Bool, false, if◌then◌else◌, Option, None, Some, List, [], ◌∷◌, ◌++◌, map, MatchOption}
+use Rattle.std.specs.Prelude.{ℕ, ◌+◌, ◌-◌, ◌≡◌, ◌<◌, ◌≤◌, Bool, false, if◌then◌else◌, Option, None, Some, List, [], ◌∷◌, ◌++◌, map, MatchOption}
 use Rattle.std.specs.List.{range_with_len, flat_map}
-use Rattle.fixed_geom.specs.Vectors.{AreWithin}
 use Rattle.voxel_block.specs.declared.key.BlockKey.{BlockKey}
 use Rattle.voxel_block.specs.Keys.{same_key}
 use Rattle.camera.specs.Grid.{block_at}
-use Rattle.depth_view.specs.Views.{View, view_of, FitsImage}
+use Rattle.band_walk.specs.BandViews.{view_of_band}
 use Rattle.band_walk.specs.Bands.{segment_point, pixel_blocks}
-use Rattle.band_walk.specs.declared.segment.Segment.{Segment}
-use Rattle.band_walk.specs.declared.row.Row.{Row}
 use Rattle.band_walk.specs.declared.blocks.RowBlocks.{RowBlocks}
+use Rattle.band_walk.specs.declared.samples.Samples.{Samples}
+use Rattle.band_walk.specs.declared.segment.Segment.{Segment}
+use Rattle.band_walk.specs.declared.side.BlockSide.{BlockSide}
 
 -- ---- a segment
 
--- the blocks of its samples from j on
-abbrev pub segment_blocks_from : Segment → List BlockKey
-segment_blocks_from s = map (λ j. block_at s.voxel (segment_point s.start s.end s.n j)) (range_with_len s.j (s.n + 1 - s.j))
+-- the block of its sample j
+abbrev pub sample_block : BlockSide → Segment → ℕ → BlockKey
+sample_block side s j = block_at side.voxel (segment_point s.start s.end s.n j)
 
--- its numbers are in their ranges
-pub record IsSegment (s : Segment) : Type 0 where
-  pub voxel : pos 1000 ≤ℤ s.voxel
-  pub voxel_high : s.voxel ≤ℤ pos 100000
-  pub start : AreWithin (pos 151006226) s.start
-  pub end : AreWithin (pos 151006226) s.end
-  pub n : 1 ≤ s.n
-  pub n_high : s.n ≤ 75504
-  pub j : s.j ≤ s.n + 1
+-- the blocks of its samples
+abbrev pub segment_blocks_of : BlockSide → Segment → List BlockKey
+segment_blocks_of side s = map (sample_block side s) (range_with_len 0 (s.n + 1))
+
+-- the blocks of the remaining samples
+abbrev pub sample_blocks_from : Samples → List BlockKey
+sample_blocks_from s = map (sample_block s.side s.segment) (range_with_len s.j (s.segment.n + 1 - s.j))
+
+-- the next sample is at most one past the end
+pub record IsSamples (s : Samples) : Type 0 where
+  pub j : s.j ≤ s.segment.n + 1
 
 -- ---- a row
 
-abbrev pub view_of_row : Row → View
-view_of_row r = view_of r.camera.now r.pose.now r.frame.now
-
--- the row is one of the frame's, the frame has the sides of the camera's image, and the rays are the camera's
-pub record IsRow (r : Row) : Type 0 where
-  pub fits : FitsImage r.camera.now r.frame.now
-  pub inside : r.v < r.frame.now.height
-  pub rays : r.rays.fields ≡ r.camera.now
-
 -- the blocks of the pixels of a row from column u on
-abbrev pub row_blocks_from : Row → (u : ℕ) → List BlockKey
-row_blocks_from r u = flat_map (λ k. pixel_blocks (view_of_row r) k r.v) (range_with_len u (r.frame.now.width - u))
+abbrev pub row_blocks_from : RowBlocks → (u : ℕ) → List BlockKey
+row_blocks_from b u = flat_map (λ k. pixel_blocks (view_of_band b.band.now) k b.v) (range_with_len u (b.band.now.frame.now.width - u))
 
--- the blocks of the segment, and those of the pixels from u on
+-- the blocks of the samples, and those of the pixels from u on
 abbrev pub remaining_blocks : RowBlocks → List BlockKey
-remaining_blocks b = segment_blocks_from b.segment ++ row_blocks_from b.row b.u
+remaining_blocks b = sample_blocks_from b.samples ++ row_blocks_from b b.u
 
--- the row and the segment are in order, and u is not past the row's end
+-- the row is one of the frame's, the samples are in order, and u is not past the row's end
 pub record IsRowBlocks (b : RowBlocks) : Type 0 where
-  pub row : IsRow b.row
-  pub segment : IsSegment b.segment
-  pub u : b.u ≤ b.row.frame.now.width
+  pub row : b.v < b.band.now.frame.now.height
+  pub samples : IsSamples b.samples
+  pub u : b.u ≤ b.band.now.frame.now.width
 
 -- ---- keys
 

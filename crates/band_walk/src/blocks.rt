@@ -1,32 +1,34 @@
-ghost use Rattle.std.specs.Prelude.{◌≡◌, IsTrue, ◌↔◌, Some};
+ghost use Rattle.std.specs.Prelude.{◌≡◌, ◌<◌, IsTrue, ◌↔◌, Some};
 ghost use Rattle.std.specs.Iterator.{YieldsFirst};
+ghost use Rattle.band_walk.specs.BandViews.{view_of_band};
 ghost use Rattle.band_walk.specs.Bands.{row_blocks};
-ghost use Rattle.band_walk.specs.Remaining.{GivesKey, IsRow, IsRowBlocks, remaining_blocks, view_of_row};
+ghost use Rattle.band_walk.specs.Remaining.{GivesKey, IsRowBlocks, remaining_blocks};
 
-use crate::row::Row;
-use crate::segment::Segment;
-use camera::Camera;
+use crate::band::Band;
+use crate::samples::Samples;
 use voxel_block::BlockKey;
 
-/// The remaining blocks of a row: those of a segment, and then those of the pixels from column `u` on.
+/// The remaining blocks of row `v`: those of the samples of a pixel, and then those of the pixels from column `u` on.
 #[derive(Drop)]
 pub(crate) struct RowBlocks<'a> {
-    row: Row<'a>,
+    band: &'a Band<'a>,
+    v: u32,
     u: u32,
-    segment: Segment,
+    samples: Samples,
 }
 
 impl<'a> RowBlocks<'a> {
     /// All blocks of the row.
-    pub(crate) fn of(row: Row<'a>, camera: &Camera) -> RowBlocks<'a>
-        requires row { IsRow row }
-        ensures remaining { remaining_blocks result ≡ row_blocks (view_of_row row.entry) row.entry.v }
+    pub(crate) fn of(band: &'a Band<'a>, v: u32) -> RowBlocks<'a>
+        requires { v < band.now.frame.now.height }
+        ensures remaining { remaining_blocks result ≡ row_blocks (view_of_band band.now) v }
         ensures in_order { IsRowBlocks result }
     {
         RowBlocks {
-            row,
+            band,
+            v,
             u: 0,
-            segment: Segment::empty(camera.fields().voxel),
+            samples: band.no_samples(),
         }
     }
 
@@ -37,13 +39,13 @@ impl<'a> RowBlocks<'a> {
         ensures in_order { IsRowBlocks self.new }
     {
         loop {
-            if let Some(key) = self.segment.next_block() {
+            if let Some(key) = self.samples.next_block() {
                 return Some(key);
             }
-            if self.u >= self.row.width() {
+            if self.u >= self.band.width() {
                 return None;
             }
-            self.segment = self.row.segment(self.u);
+            self.samples = self.band.samples(self.u, self.v);
             self.u += 1;
         }
     }

@@ -1,14 +1,11 @@
 ghost use Rattle.std.specs.Prelude.{◌≡◌, ◌<◌};
 ghost use Rattle.std.specs.Iterator.{YieldsFirst, item_count};
-ghost use Rattle.depth_view.specs.Views.{FitsImage, view_of};
+ghost use Rattle.band_walk.specs.BandViews.{view_of_band};
 ghost use Rattle.band_walk.specs.Bands.{row_keys};
 ghost use Rattle.band_walk.specs.RemainingKeys.{remaining_keys};
 
+use crate::band::Band;
 use crate::blocks::{RowBlocks, next_key};
-use crate::row::Row;
-use camera::Camera;
-use depth_frame::DepthFrame;
-use fixed_geom::Pose;
 use std::marker::Model;
 use voxel_block::BlockKey;
 
@@ -36,16 +33,14 @@ impl<'a> Model for BandWalk<'a> {
 }
 
 impl<'a> BandWalk<'a> {
-    /// The keys of row `v` of a frame's truncation band, by column and then by sample. A key that is equal to the one
+    /// The keys of row `v` of a band, by column and then by sample. A key that is equal to the one
     /// given just before it is left out. Takes no memory.
-    pub fn over(camera: &'a Camera, pose: &'a Pose, frame: &'a DepthFrame, v: u32) -> BandWalk<'a>
-        requires fits { FitsImage camera.now frame.now }
-        requires row { v < frame.now.height }
-        ensures { remaining_keys result ≡ row_keys (view_of camera.now pose.now frame.now) v }
+    pub fn over(band: &'a Band<'a>, v: u32) -> BandWalk<'a>
+        requires { v < band.now.frame.now.height }
+        ensures { remaining_keys result ≡ row_keys (view_of_band band.now) v }
     {
-        let row = Row::of(camera, pose, frame, v);
         BandWalk {
-            blocks: RowBlocks::of(row, camera),
+            blocks: RowBlocks::of(band, v),
             last: None,
         }
     }

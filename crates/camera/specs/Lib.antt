@@ -2,4 +2,5 @@ pub mod Cameras
 pub mod Grid
 pub mod Laws
 pub mod Opening
+pub mod Slopes
 pub mod Visibility

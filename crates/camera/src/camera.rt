@@ -8,8 +8,7 @@ ghost use Rattle.camera.specs.Opening.{camera_of, camera_tests, first_failing};
 ghost use Rattle.camera.specs.Visibility.{MeetsNone, is_visible};
 
 use crate::opening::{check_opening, failing_field};
-use crate::ray::PixelRays;
-use crate::{grid, projection, sphere, visibility};
+use crate::{grid, projection, ray, sphere, visibility};
 use fixed_geom::{Pose, Vec3};
 use std::error::Error;
 use std::fmt;
@@ -147,7 +146,7 @@ impl Camera {
     }
 
     /// The point at depth `z` on the ray of the pixel in column `u` and row `v`, in the camera's
-    /// micrometres. It is within 17 metres on each axis. For many points make the `PixelRays` once.
+    /// micrometres. It is within 17 metres on each axis. For many points make the `Slopes` once.
     pub fn ray(&self, u: u32, v: u32, z: i64) -> Vec3
         requires column { pos u <ℤ self.now.width }
         requires row { pos v <ℤ self.now.height }
@@ -156,7 +155,7 @@ impl Camera {
         ensures value { result ≡ ray_of self.now (pos u) (pos v) z }
         ensures bound { AreWithin (pos 17000000) result }
     {
-        PixelRays::of(self).point(u, v, z)
+        ray::ray(&self.fields, u, v, z)
     }
 
     /// The pixel (column, row) that a camera point projects to. `None` where the point is not in front of the

@@ -8,12 +8,13 @@ mod opening;
 mod projection;
 mod ray;
 mod shared;
+mod slopes;
 mod sphere;
 mod visibility;
 
 pub use camera::{BadCamera, Camera, CameraFields};
 pub use opening::first_failing;
-pub use ray::PixelRays;
+pub use slopes::Slopes;
 
 #[cfg(test)]
 mod tests;

@@ -1,5 +1,6 @@
-ghost use Rattle.std.specs.Prelude.{◌^◌, pos};
+ghost use Rattle.std.specs.Prelude.{◌≡◌, ◌^◌, pos};
 ghost use Rattle.fixed_geom.specs.Vectors.{AreWithin, IsWithin};
+ghost use Rattle.camera.specs.Cameras.{max_depth};
 
 use super::*;
 use fixed_geom::{Pose, PoseRows, Vec3};
@@ -164,7 +165,6 @@ fn a_camera_takes_depths_and_pixels(rt: HostRuntime) -> Result<(), BadCamera> {
     assert_eq!(rt; camera.fields(), BASE);
     is_shared(&camera);
     is_shared(&BASE);
-    is_shared(&PixelRays::of(&camera));
     for (name, raw, depth) in [
         ("no sample", 0, None),
         ("before near", 499, None),
@@ -192,6 +192,70 @@ fn a_camera_takes_depths_and_pixels(rt: HostRuntime) -> Result<(), BadCamera> {
     assert_eq!(rt; camera.project_near(beside), None);
     assert_eq!(rt; camera.project_near(at_camera), None);
     assert_eq!(rt; camera.ray(0, 0, 1000000), ahead);
+    Ok(())
+}
+
+// The point that slopes of 4 by 4 pixels give. `None` where there is no such pixel or depth.
+fn point_of(slopes: &Slopes, u: u32, v: u32, z: i64) -> Option<Vec3>
+    requires width { slopes.now.fields.width ≡ pos 4 }
+    requires height { slopes.now.fields.height ≡ pos 4 }
+    requires depth { max_depth slopes.now.fields ≡ pos 2040000 }
+{
+    if u >= 4 || v >= 4 || z < 1 || z > 2040000 {
+        return None;
+    }
+    Some(slopes.point(u, v, z))
+}
+
+#[test]
+fn slopes_give_the_points_of_rays(rt: HostRuntime) -> Result<(), Fail> {
+    // The centre is in the middle of the image, one and a half pixels from the outer ones; the focal lengths are 3 and
+    // 5 pixels.
+    let fields = CameraFields {
+        width: 4,
+        height: 4,
+        fx: 3 * 65536,
+        fy: 5 * 65536,
+        cx: 98304,
+        cy: 98304,
+        radius: 2600000,
+        ..BASE
+    };
+    let camera = Camera::make(fields).map_err(|_| Fail::from("camera"))?;
+    let slopes = Slopes::make(rt.alloc(), &camera)?;
+    is_shared(&slopes);
+    let corner = Vec3 {
+        x: 500000,
+        y: 300000,
+        z: 1000000,
+    };
+    assert_eq!(rt; camera.ray(3, 3, 1000000), corner);
+    for (name, u, v, z, x, y) in [
+        ("the first pixel", 0, 0, 1000000, -500000, -300000),
+        ("the last pixel", 3, 3, 1000000, 500000, 300000),
+        ("the end of the first row", 3, 0, 1000000, 500000, -300000),
+        (
+            "the end of the first column",
+            0,
+            3,
+            1000000,
+            -500000,
+            300000,
+        ),
+        ("between the pixels' halves", 1, 2, 1000000, -166667, 100000),
+        ("next to the camera", 0, 3, 1, -1, 0),
+        (
+            "a multiple of the focal length",
+            2,
+            1,
+            2040000,
+            340000,
+            -204000,
+        ),
+    ] {
+        let expected = Some(Vec3 { x, y, z });
+        assert_eq!(rt; point_of(&slopes, u, v, z), expected, "{name}");
+    }
     Ok(())
 }
 

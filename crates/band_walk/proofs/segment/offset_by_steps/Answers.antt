@@ -1,4 +1,4 @@
-use Rattle.std.proofs.Common.{◌≡◌, subst, sym, refl, arith, lit≤}
+use Rattle.std.proofs.Common.{◌≡◌, ℕ, ◌*◌, subst, sym, refl, arith, lit≤}
 use Rattle.std.specs.Prelude.{ℤ, pos, ◌-ℤ◌, ◌*ℤ◌}
 use Rattle.std.proofs.lemmas.Int.{ints}
 use mir.Val.{to_z, of_z}
@@ -19,10 +19,11 @@ returns-clause-value c =
 
 pub returns-clause-bound : goal.returns-clause-bound
 returns-clause-bound c =
+    let j = c.args.j in
     let d = c.args.end -ℤ c.args.start in
-    let few : IsWithin (pos 75504) (pos c.args.j) = record { low = omega (arith, ints); high = omega (arith, ints) } in
+    let few : IsWithin (pos j) (pos j) = record { low = omega (arith, ints); high = omega (arith, ints) } in
     let near : IsWithin (pos 302012452) d = record { low = omega (arith, ints); high = omega (arith, ints) } in
-    subst (IsWithin (pos 1152921504606846976)) (sym (returns-clause-value c)) (wider (pos c.args.j *ℤ d) (within_product (pos 75504) (pos 302012452) (pos c.args.j) d few near))
+    subst (IsWithin (pos (302012452 * j))) (sym (returns-clause-value c)) (turned j (pos j *ℤ d) (within_product (pos j) (pos 302012452) (pos j) d few near))
   where
-    wider : (x : ℤ) → IsWithin (pos 75504 *ℤ pos 302012452) x → IsWithin (pos 1152921504606846976) x
-    wider x w = record { low = omega (arith, ints); high = omega (arith, ints) }
+    turned : (j : ℕ) (x : ℤ) → IsWithin (pos j *ℤ pos 302012452) x → IsWithin (pos (302012452 * j)) x
+    turned j x w = record { low = omega (arith, ints, w.low); high = omega (arith, ints, w.high) }

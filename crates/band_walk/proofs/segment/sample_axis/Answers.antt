@@ -9,27 +9,26 @@ use Rattle.band_walk.proofs.Machine.{sum_fits, sum_same}
 use Rattle.band_walk.proofs.SampleLemmas.{sample_axis_within}
 use Rattle.band_walk.proofs.segment.sample_axis.Goals as goal
 
-steps_offset : (c : goal.After-floor_div_from) → ℤ
+steps_offset : (c : goal.After-share) → ℤ
 steps_offset c = floor_div (pos c.args.j *ℤ (c.args.end -ℤ c.args.start)) (pos c.args.n)
 
-quotient : (c : goal.After-floor_div_from) → c.floor_div_from.result ≡ steps_offset c
+quotient : (c : goal.After-share) → c.share.result ≡ steps_offset c
 unfolding steps_offset
 quotient c =
-    let offset : to_z w64 (of_z w64 c.offset_by_steps-offset.result) ≡ pos c.args.j *ℤ (c.args.end -ℤ c.args.start) = to_z-of_z w64 c.offset_by_steps-offset.result (record { sfits = c.offset_by_steps-offset.type_inv }) ∙ c.offset_by_steps-offset.ensures.value ∙ rw (to_z-of_z w64 c.args.start c.ranges.start, to_z-of_z w64 c.args.end c.ranges.end) refl in
-    let n : to_z w64 (of_z w64 c.from.result) ≡ pos c.args.n = omega (arith, ints) in
-    c.floor_div_from.ensures ∙ rw (offset, n) refl
+    let offset : to_z w64 (of_z w64 c.offset_by_steps.result) ≡ pos c.args.j *ℤ (c.args.end -ℤ c.args.start) = to_z-of_z w64 c.offset_by_steps.result (record { sfits = c.offset_by_steps.type_inv }) ∙ c.offset_by_steps.ensures.value ∙ rw (to_z-of_z w64 c.args.start c.ranges.start, to_z-of_z w64 c.args.end c.ranges.end) refl in
+    c.share.ensures ∙ rw offset refl
 
-within : (c : goal.After-floor_div_from) → IsWithin (pos 151006226) (c.args.start +ℤ steps_offset c)
+within : (c : goal.After-share) → IsWithin (pos 151006226) (c.args.start +ℤ steps_offset c)
 unfolding steps_offset
 within c =
     let r = c.requires in
     sample_axis_within (pos 151006226) c.args.start c.args.end (pos c.args.n) (pos c.args.j) (omega (arith, ints)) (omega (arith, ints)) (omega (arith, ints)) r.start r.end
 
 pub overflow_add-result : goal.overflow_add-result
-overflow_add-result c = sum_fits c.args.start c.floor_div_from.result (steps_offset c) (quotient c) c.requires.start (within c)
+overflow_add-result c = sum_fits c.args.start c.share.result (steps_offset c) (quotient c) c.requires.start (within c)
 
-same : (c : goal.After-floor_div_from) → to_z w64 (of_z w64 (to_z w64 (of_z w64 c.args.start) +ℤ to_z w64 (of_z w64 c.floor_div_from.result))) ≡ c.args.start +ℤ steps_offset c
-same c = sum_same c.args.start c.floor_div_from.result (steps_offset c) (quotient c) c.requires.start (within c)
+same : (c : goal.After-share) → to_z w64 (of_z w64 (to_z w64 (of_z w64 c.args.start) +ℤ to_z w64 (of_z w64 c.share.result))) ≡ c.args.start +ℤ steps_offset c
+same c = sum_same c.args.start c.share.result (steps_offset c) (quotient c) c.requires.start (within c)
 
 pub returns-clause-value : goal.returns-clause-value
 unfolding steps_offset

@@ -10,4 +10,4 @@ invariant-loop-key l = record {
 }
 
 abbrev pub decreases-loop-key : goal.decreases-loop-key
-decreases-loop-key l = l.self.row.frame.now.width - l.self.u
+decreases-loop-key l = l.self.band.now.frame.now.width - l.self.u

@@ -1,0 +1,23 @@
+use Rattle.std.proofs.Common.{◌≡◌, ◌∙◌, ap, rules, subst}
+use Rattle.std.specs.Prelude.{ℤ, IfOk}
+use Rattle.std.proofs.lemmas.Int.{to_z-of_z}
+use mir.Val.{to_z, of_z}
+use mir.Syntax.{w64}
+use Rattle.band_walk.specs.BandViews.{view_of_band}
+use Rattle.band_walk.specs.Bands.{blocks_round, segment_blocks, segment_end, segment_start}
+use Rattle.band_walk.specs.Memos.{HasAdded}
+use Rattle.band_walk.proofs.PixelLemmas.{pixel_is}
+use Rattle.band_walk.proofs.band.Band.add_pixel.Goals as goal
+
+pub returns-in-Some-clause-added : goal.returns-in-Some-clause-added
+returns-in-Some-clause-added c =
+    let b = c.args.self.now in
+    let w = view_of_band b in
+    let u = c.args.u in
+    let v = c.args.v in
+    let e = c.segment.ensures in
+    let depth : to_z w64 (of_z w64 c.in-Some.d) ≡ c.in-Some.d = search (rules, to_z-of_z) in
+    let is =
+    pixel_is w b.side c.segment.result u v (to_z w64 (of_z w64 c.in-Some.d)) b.voxel e.start e.end e.n
+    ∙ ap (λ (d : ℤ). segment_blocks w.camera.voxel (segment_start w u v d) (segment_end w u v d)) depth ∙ ap (blocks_round w u v) c.in-Some.ensures.value in
+    subst (λ bs. IfOk c.add_segment.result (λ _. HasAdded bs c.args.memo.now c.args.keys.now.items c.add_segment.new.memo c.add_segment.new.keys.items)) is c.add_segment.ensures.added
