@@ -1,13 +1,13 @@
 -- How many known keys pass a test: those in the heap and those in the store.
 use Rattle.std.proofs.Common.{◌≡◌, ◌+◌, Bool, true, false, cond, ◌||◌, List, [], ◌∷◌, ◌++◌, map, length, refl, sym, ap, subst, ◌∙◌, arith}
-use Rattle.std.specs.Prelude.{Option, Some, is_some}
+use Rattle.std.specs.Prelude.{is_some}
 use Rattle.std.specs.List.{AllByRecursion, IsDistinct, count_by, list_any}
 use Rattle.std.specs.Ordering.{eq_by_cmp, is_eq}
 use Rattle.std.specs.declared.cmp.Ordering.{Ordering}
 use Rattle.std.specs.declared.cmp.Ordering.TheVariants.{Less, Equal, Greater}
-use Rattle.std.specs.FinMap.{FinMap, contains_key, empty, entries, find, from_entries, insert, keys, len, len-empty, len-entries, contains_key-keys, entries-insert, get-entries, get-from_entries}
+use Rattle.std.specs.FinMap.{FinMap, contains_key, entries, find, from_entries, insert, keys, len, len-entries, contains_key-keys, entries-insert, get-entries, get-from_entries}
 use Rattle.std.specs.FinMap.Entries.{by_order, is_some-find, put}
-use Rattle.std.proofs.lemmas.List.{length-map, nil_from_length}
+use Rattle.std.proofs.lemmas.List.{length-map}
 use Rattle.std.proofs.lemmas.List.Sums.{sum_by-append, sum_by-cons}
 use Rattle.std.proofs.lemmas.Map.Keys.{IsDistinct-cons, IsDistinct-head, IsDistinct-IsPermutation, IsDistinct-tail}
 use Rattle.voxel_block.specs.declared.key.BlockKey.{BlockKey}

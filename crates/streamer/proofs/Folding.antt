@@ -1,10 +1,10 @@
 -- A fold over a map, in the order of the places where its blocks lie.
-use Rattle.std.proofs.Common.{◌≡◌, ℕ, zero, suc, true, false, List, [], ◌∷◌, ◌++◌, refl, sym, ap, subst, ◌∙◌, arith}
+use Rattle.std.proofs.Common.{◌≡◌, ℕ, zero, suc, true, List, [], ◌∷◌, ◌++◌, refl, sym, ap, subst, ◌∙◌, arith}
 use Rattle.std.specs.Prelude.{Option, Some, None, is_some, slice_get}
 use Rattle.std.specs.Option.{option_and_then}
 use Rattle.std.specs.List.{IsDistinct, fold, list_any}
 use Rattle.std.specs.Map.{keys_of}
-use Rattle.std.specs.FinMap.{contains_key, contains_key-keys, entries, find, from_entries, get, get-from_entries, keys, same_map}
+use Rattle.std.specs.FinMap.{contains_key, contains_key-keys, entries, find, from_entries, get-from_entries, keys, same_map}
 use Rattle.std.specs.FinMap.Entries.{is_some-find}
 use Rattle.std.proofs.lemmas.Bool.{cond-true, cond-false}
 use Rattle.std.proofs.lemmas.List.Sums.{fold-append}
