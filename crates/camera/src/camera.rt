@@ -90,6 +90,15 @@ fn field_name(number: u8) -> &'static str {
     }
 }
 
+/// What two tests say of a block at a pose.
+#[derive(Clone, Copy, Debug, PartialEq, Eq)]
+pub struct Sight {
+    /// Its centre lies in the active sphere.
+    pub active: bool,
+    /// Some of its voxels may be seen.
+    pub visible: bool,
+}
+
 /// A camera whose fields passed all tests.
 #[derive(Clone, Copy, Debug, PartialEq, Eq)]
 pub struct Camera {
@@ -205,6 +214,19 @@ impl Camera {
     {
         let centre = self.block_centre(key);
         visibility::may_see(&self.fields, pose.cam(centre))
+    }
+
+    /// Whether a block is active at a pose, and whether it is visible there: both by the camera point of its centre, which
+    /// is made once.
+    pub fn sight(&self, pose: &Pose, key: BlockKey) -> Sight
+        ensures active { result.active ≡ is_active self.now pose.now key }
+        ensures visible { result.visible ≡ is_visible self.now pose.now key }
+    {
+        let centre = pose.cam(self.block_centre(key));
+        Sight {
+            active: sphere::is_in_sphere(&self.fields, centre),
+            visible: visibility::may_see(&self.fields, centre),
+        }
     }
 
     /// The block that a world point lies in. `None` where a coordinate of the block does not fit 16 bits.

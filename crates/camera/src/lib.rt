@@ -12,7 +12,7 @@ mod slopes;
 mod sphere;
 mod visibility;
 
-pub use camera::{BadCamera, Camera, CameraFields};
+pub use camera::{BadCamera, Camera, CameraFields, Sight};
 pub use opening::first_failing;
 pub use slopes::Slopes;
 

@@ -86,16 +86,22 @@ module _ (memo : List ℕ) (t : Cells) (noted : HasNoted memo t) (row keys : Lis
       by false false e f = refl
       by true false e f = absurd (let z : true ≡ false = sym (has_key b row (only b (has_it b keys e))) ∙ f in cc)
       by false true e f = elim (found b (has_it b row f)) [
-        | inl old ↦ (let h : contains_key t b ≡ true = noted b old in ap (λ x. x || false) h ∙ sym (ap (λ x. x || true) h))
+        | inl old ↦ (let h : contains_key t b ≡ true = noted.touched b old in ap (λ x. x || false) h ∙ sym (ap (λ x. x || true) h))
         | inr new ↦ absurd (let z : true ≡ false = sym (has_key b keys new) ∙ e in cc)
       ]
 
   -- what is noted then is a key of the new table
   pub noted_next : (memo' : List ℕ) (u : Cells) → ((b : BlockKey) → IsNoted memo' b → IsNoted memo b ⊎ Contains keys b) → Touches t keys u → HasNoted memo' u
-  noted_next memo' u more all b is = elim (more b is) [
-    | inl old ↦ all b ∙ ap (λ x. x || list_any (same_key b) keys) (noted b old)
-    | inr new ↦ all b ∙ ap (λ x. contains_key t b || x) (has_key b keys new) ∙ or-true (contains_key t b)
-  ]
+  noted_next memo' u more all = record {
+    touched = λ b is. elim (more b is) [
+      | inl old ↦ all b ∙ ap (λ x. x || list_any (same_key b) keys) (noted.touched b old)
+      | inr new ↦ all b ∙ ap (λ x. contains_key t b || x) (has_key b keys new) ∙ or-true (contains_key t b)
+    ];
+  }
+
+-- where nothing is noted
+pub noted_none : (memo : List ℕ) (t : Cells) → ((b : BlockKey) → ¬ IsNoted memo b) → HasNoted memo t
+noted_none memo t none = record { touched = λ b is. absurd (none b is) }
 
 -- a row is spent where some of its keys are
 pub row_spent : (t : Cells) (row keys : List BlockKey) (n : ℕ) → ((b : BlockKey) → Contains keys b → Contains row b) → IsSpent t keys n → IsSpent t row n

@@ -27,8 +27,8 @@ abbrev pub Touches : Cells → List BlockKey → Cells → Type 0
 Touches h ks t = (b : BlockKey) → contains_key t b ≡ (contains_key h b || list_any (same_key b) ks)
 
 -- each key that is noted in a memo is a key of a table
-abbrev pub HasNoted : (memo : List ℕ) → Cells → Type 0
-HasNoted memo t = (b : BlockKey) → IsNoted memo b → IsTrue (contains_key t b)
+pub record HasNoted (memo : List ℕ) (t : Cells) : Type 0 where
+  pub touched : (b : BlockKey) → IsNoted memo b → IsTrue (contains_key t b)
 
 -- keys of a table and of a list that number at least as many as the nodes
 pub record IsSpent (h : Cells) (ks : List BlockKey) (nodes : ℕ) : Type 0 where

@@ -6,7 +6,7 @@ ghost use Rattle.spatial_hash.specs.Contents.{contents};
 ghost use Rattle.spatial_hash.specs.Table.{KeepsSize};
 ghost use Rattle.fusion_core.specs.Frames.{view};
 ghost use Rattle.session.specs.declared.touching.TouchError.TheVariants.{Full as full, NoMemory as no_memory};
-ghost use Rattle.session.specs.Rooms.{HasNoted, IsSpent, Touches};
+ghost use Rattle.session.specs.Rooms.{IsSpent, Touches};
 
 use crate::scratch::Scratch;
 use band_walk::{Band, Memo};
@@ -55,23 +55,23 @@ pub fn touch_keys(scratch: &mut Scratch, hash: &HashTable, frame: &Frame) -> Res
     ensures slopes { scratch.new.slopes ≡ scratch.old.slopes }
 {
     scratch.touched.copy_from(hash);
-    scratch.memo.clear();
     let band = frame.band(&scratch.slopes);
     touch_band(&mut scratch.touched, &mut scratch.memo, &mut scratch.keys, &band)
 }
 
-/// Touches the blocks of a truncation band. What the memo has noted is touched.
+/// Touches the blocks of a truncation band. What the memo has noted was touched for this band.
+#[tactic(auto, using(crate::proofs::TouchedKeys::noted_none))]
 fn touch_band(
     table: &mut HashTable,
     memo: &mut Memo,
     keys: &mut Vec<BlockKey>,
     band: &Band<'_>,
 ) -> Result<(), TouchError>
-    requires { HasNoted memo.old (contents table.old) }
     ensures ok { OnOk result (Touches (contents table.old) (band_of (view_of_band band.now)) (contents table.new)) }
     ensures full { result ≡ Err TouchError.Full → IsSpent (contents table.old) (band_of (view_of_band band.now)) table.old.nodes }
     ensures size { KeepsSize table.old table.new }
 {
+    memo.clear();
     for v in 0..band.frame.height() {
         band.new_keys(v, memo, keys)?;
         touch_all(table, keys)?;

@@ -158,12 +158,13 @@ fn sort_one(
     ensures stay { OnOk result (resident.new.stay.items ≡ resident.old.stay.items ++ (if is_active camera.now pose.now key && is_visible camera.now pose.now key then key ∷ [] else [])) }
     ensures active { OnOk result (resident.new.active ≡ resident.old.active + (if is_active camera.now pose.now key then 1 else 0)) }
 {
-    if !camera.active(pose, key) {
+    let sight = camera.sight(pose, key);
+    if !sight.active {
         resident.leave.push(key)?;
         return Ok(());
     }
     resident.active += 1;
-    if camera.may_see(pose, key) {
+    if sight.visible {
         resident.stay.push(key)?;
     }
     Ok(())

@@ -10,9 +10,6 @@ use Rattle.session.specs.Rooms.{IsSpent, Touches}
 use Rattle.session.proofs.touching.touch_keys.Goals.{After-touch_band}
 use Rattle.session.proofs.touching.touch_keys.Goals as goal
 
-pub touch_band-requires : goal.touch_band-requires
-touch_band-requires c = λ b is. absurd (c.clear.ensures b is)
-
 view_is : (c : After-touch_band) → view_of_band c.band-band.result ≡ view c.args.frame.now
 view_is c = λ i. record { camera = c.band-band.ensures.camera i; pose = c.band-band.ensures.pose i; depths = c.band-band.ensures.frame i }
 
