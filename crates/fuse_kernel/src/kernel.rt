@@ -43,12 +43,7 @@ pub struct Kernel<'a> {
 
 impl<'a> Kernel<'a> {
     /// The update by a frame with these depths, which this camera took from this pose. A voxel weighs at most `max_weight`.
-    pub fn of(
-        camera: &'a Camera,
-        pose: &'a Pose,
-        depths: &'a Depths,
-        max_weight: u8,
-    ) -> Kernel<'a>
+    pub fn of(camera: &'a Camera, pose: &'a Pose, depths: &'a Depths, max_weight: u8) -> Kernel<'a>
         requires { 1 ≤ max_weight }
         ensures camera { result.camera.now ≡ camera.now }
         ensures pose { result.pose.now ≡ pose.now }

@@ -56,7 +56,12 @@ pub fn touch_keys(scratch: &mut Scratch, hash: &HashTable, frame: &Frame) -> Res
 {
     scratch.touched.copy_from(hash);
     let band = frame.band(&scratch.slopes);
-    touch_band(&mut scratch.touched, &mut scratch.memo, &mut scratch.keys, &band)
+    touch_band(
+        &mut scratch.touched,
+        &mut scratch.memo,
+        &mut scratch.keys,
+        &band,
+    )
 }
 
 /// Touches the blocks of a truncation band. What the memo has noted was touched for this band.
