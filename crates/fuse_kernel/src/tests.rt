@@ -3,7 +3,7 @@ ghost use Rattle.depth_view.specs.Views.{FitsImage};
 
 use crate::Kernel;
 use crate::mean::Reciprocals;
-use crate::pixel_axis::{PixelAxis, inverse};
+use crate::pixel_axis::PixelAxis;
 use crate::truncation::Truncation;
 use camera::{Camera, CameraFields};
 use depth_frame::DepthFrame;
@@ -357,9 +357,9 @@ fn pixels_are_exact_at_their_edges(rt: HostRuntime) {
         (67108864, 1, None),
         (-67108864, 1, None),
     ] {
-        assert_eq!(rt; axis.inside(x, z, inverse(z)), expected);
-        // An estimate by another depth is wrong, and makes no difference.
-        assert_eq!(rt; axis.inside(x, z, inverse(z + 1000)), expected);
-        assert_eq!(rt; axis.inside(x, z, 0.0), expected);
+        // No estimate makes a difference, be it right or wrong.
+        for estimate in [-32768, -1, 0, 1, 319, 320, 321, 639, 640, 32767] {
+            assert_eq!(rt; axis.inside(x, z, estimate), expected);
+        }
     }
 }
