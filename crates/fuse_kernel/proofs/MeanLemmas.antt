@@ -52,9 +52,6 @@ pub mean_is : (w m p q n : ℕ) (old new r : ℤ) → pos p ≡ old +ℤ pos 327
 mean_is w m p q n old new r ep eq em en er =
     er ∙ ap (λ z. pos z -ℤ pos 32768) en ∙ sym (mean_is_floor (pos w *ℤ old +ℤ new) m (w + 1) (omega arith) (raised_is w m p q old new ep eq em))
 
-pub mean_of_none : (old new r : ℤ) → r ≡ new → r ≡ mean 0 old new
-mean_of_none old new r e = e ∙ sym (floor_div_is (pos 2 *ℤ ((pos 0 *ℤ old) +ℤ new) +ℤ pos 1) (pos 2) new (omega (arith, ints)) (record { below = omega (arith, ints); above = omega (arith, ints) }))
-
 -- as the machine reads them
 pub mean_read : (w m p q n : ℕ) (old new r : ℤ) → SFits w16 old → SFits w16 new → pos p ≡ read16 old +ℤ pos 32768 → pos q ≡ read16 new +ℤ pos 32768 → m ≡ w * p + q + (w + 1) / 2 → n ≡ m / (w + 1) → n ≤ 65535 → r ≡ pos n -ℤ pos 32768 → read16 r ≡ mean w old new
 mean_read w m p q n old new r fo fn ep eq em en small er =

@@ -16,11 +16,11 @@ const ROUNDING: f32 = 0.000_488_281_25;
 /// A float of this size has whole numbers in its last bits.
 const WHOLE: f32 = 12_582_912.0;
 
-/// An estimate of a pixel, its column and its row.
+/// Estimates of the columns and rows of a row's pixels.
 #[derive(Clone, Copy)]
-pub(crate) struct Estimate {
-    pub(crate) u: i16,
-    pub(crate) v: i16,
+pub(crate) struct RowEstimates {
+    pub(crate) u: [i16; 8],
+    pub(crate) v: [i16; 8],
 }
 
 /// A camera point, or a step, whose first two coordinates are times the focal lengths.
@@ -59,21 +59,31 @@ impl Estimates {
     }
 
     /// Estimates of the pixels of a row along x.
-    pub(crate) fn row(&self, row: u16) -> [Estimate; 8]
+    pub(crate) fn row(&self, row: u16) -> RowEstimates
         requires { row < 64 }
     {
         let start = self.corner.plus(self.y, row % 8).plus(self.z, row / 8);
-        let mut estimates = [Estimate { u: 0, v: 0 }; 8];
-        for i in 0..8 {
-            let point = start.plus(self.x, i as u16);
-            let inverse = 1.0 / point.z;
-            estimates[i] = Estimate {
-                u: below(point.x * inverse + self.cx),
-                v: below(point.y * inverse + self.cy),
-            };
+        let inverses = along(start.z, self.x.z).map(|z| 1.0 / z);
+        RowEstimates {
+            u: pixels_along(start.x, self.x.x, inverses, self.cx),
+            v: pixels_along(start.y, self.x.y, inverses, self.cy),
         }
-        estimates
     }
+}
+
+/// A coordinate along a row of 8 voxels.
+fn along(start: f32, step: f32) -> [f32; 8] {
+    [0.0, 1.0, 2.0, 3.0, 4.0, 5.0, 6.0, 7.0].map(|i| start + i * step)
+}
+
+/// The estimates along a row, by the inverses of the depths and the centre in pixels.
+fn pixels_along(start: f32, step: f32, inverses: [f32; 8], centre: f32) -> [i16; 8] {
+    let coordinates = along(start, step);
+    let mut pixels = [0; 8];
+    for i in 0..8 {
+        pixels[i] = nearest(coordinates[i] * inverses[i] + centre);
+    }
+    pixels
 }
 
 impl Scaled {
@@ -135,7 +145,7 @@ fn float(x: i64) -> f32
 }
 
 /// The whole number nearest to a coordinate, where it fits 16 bits.
-fn below(coordinate: f32) -> i16 {
+fn nearest(coordinate: f32) -> i16 {
     let bits = f32_to_bits_with_nan(coordinate + WHOLE);
     ((bits & 0xffff) as u16).cast_signed()
 }

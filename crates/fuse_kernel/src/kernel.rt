@@ -11,7 +11,7 @@ ghost use Rattle.depth_view.specs.Views.{FitsImage, depth_list, view_of};
 ghost use Rattle.fuse_kernel.specs.Updates.{averaged as averaged_of, signed_distance as signed_distance_by, signed_distance_of, updated};
 ghost use Rattle.fuse_kernel.specs.VoxelSteps.{HasStepBounds, updated_to, voxel_steps_of};
 
-use crate::estimates::{Estimate, Estimates};
+use crate::estimates::Estimates;
 use crate::mean::Reciprocals;
 use crate::pixel_axis::PixelAxis;
 use crate::truncation::Truncation;
@@ -44,12 +44,7 @@ pub struct Kernel<'a> {
 
 impl<'a> Kernel<'a> {
     /// The update by a frame with these depths, which this camera took from this pose. A voxel weighs at most `max_weight`.
-    pub fn of(
-        camera: &'a Camera,
-        pose: &'a Pose,
-        depths: &'a Depths,
-        max_weight: u8,
-    ) -> Kernel<'a>
+    pub fn of(camera: &'a Camera, pose: &'a Pose, depths: &'a Depths, max_weight: u8) -> Kernel<'a>
         requires { 1 ≤ max_weight }
         ensures camera { result.camera.now ≡ camera.now }
         ensures pose { result.pose.now ≡ pose.now }
@@ -99,14 +94,14 @@ impl<'a> Kernel<'a> {
         let estimates = estimates.row(row);
         let mut near_cam_q30 = steps.row(row);
         for x in 0..8 {
-            let estimate = estimates[usize::from(x)];
+            let estimate = (estimates.u[usize::from(x)], estimates.v[usize::from(x)]);
             self.update_voxel(block, 8 * row + x, near_cam_q30.point(), estimate);
             near_cam_q30 = near_cam_q30.plus(steps.x);
         }
     }
 
     /// Updates a voxel, by its camera point and an estimate of its pixel. It is read only where the frame meets it.
-    fn update_voxel(&self, block: &mut Block, i: u16, point: Vec3, estimate: Estimate)
+    fn update_voxel(&self, block: &mut Block, i: u16, point: Vec3, estimate: (i16, i16))
         requires index { i < 512 }
         requires point { AreWithin (pos (2 ^ 26)) point }
         ensures { (frame : DepthMap) (m : PoseOf) (b : Key) (voxels : List VoxelOf)
@@ -122,7 +117,7 @@ impl<'a> Kernel<'a> {
     }
 
     /// How far a camera point lies in front of what its pixel shows. `None` where the frame does not meet it.
-    fn signed_distance(&self, point: Vec3, estimate: Estimate) -> Option<i64>
+    fn signed_distance(&self, point: Vec3, estimate: (i16, i16)) -> Option<i64>
         requires point { AreWithin (pos (2 ^ 26)) point }
         ensures value { (frame : DepthMap) (m : PoseOf) → FitsImage self.now.camera.now frame → self.now.depths.now ≡ depth_list self.now.camera.now frame
             → result ≡ signed_distance_of (view_of self.now.camera.now m frame) point }
@@ -136,7 +131,7 @@ impl<'a> Kernel<'a> {
 
     /// The pixel (column, row) that a camera point projects to. `None` where the point is not in front of the camera, or
     /// the pixel nearest to it is not one of the image's.
-    fn pixel(&self, point: Vec3, estimate: Estimate) -> Option<(usize, usize)>
+    fn pixel(&self, point: Vec3, estimate: (i16, i16)) -> Option<(usize, usize)>
         requires point { AreWithin (pos (2 ^ 26)) point }
         ensures value { result ≡ project self.now.camera.now point }
         ensures bound { IfSome result (λ p. (p.0 < 2048) × (p.1 < 2048)) }
@@ -144,8 +139,8 @@ impl<'a> Kernel<'a> {
         if point.z <= 0 {
             return None;
         }
-        let u = self.columns.inside(point.x, point.z, estimate.u)?;
-        let v = self.rows.inside(point.y, point.z, estimate.v)?;
+        let u = self.columns.inside(point.x, point.z, estimate.0)?;
+        let v = self.rows.inside(point.y, point.z, estimate.1)?;
         Some((u, v))
     }
 
