@@ -82,9 +82,7 @@ fn depths_are_those_of_valid_samples(rt: HostRuntime) {
             "a large unit",
             (100000, 1000000, 2000000),
             [0, 1, 9, 10, 20, 21, 42949, 65535],
-            [
-                none, none, none, 1000000, 2000000, none, none, none, none,
-            ],
+            [none, none, none, 1000000, 2000000, none, none, none, none],
         ),
     ];
     for (name, (unit, near, far), samples, expected) in rows {

@@ -1,9 +1,9 @@
 -- Machine numbers that are read as they are.
-use Rattle.std.proofs.Common.{◌≡◌, ◌∙◌, ap, refl, subst, sym, arith}
-use Rattle.std.specs.Prelude.{ℤ, pos, negsuc, ◌+ℤ◌, ◌≤ℤ◌}
-use Rattle.std.proofs.lemmas.Int.{ints, to_z-of_z}
-use mir.Val.{SFits, to_z, of_z}
-use mir.Syntax.{w16, w32, w64}
+use Rattle.std.proofs.Common.{◌≡◌, refl, arith}
+use Rattle.std.specs.Prelude.{ℤ, pos, ◌+ℤ◌, ◌≤ℤ◌}
+use Rattle.std.proofs.lemmas.Int.{ints}
+use mir.Val.{SFits}
+use mir.Syntax.{w64}
 use Rattle.fixed_geom.specs.Vectors.{IsWithin}
 use Rattle.camera.proofs.Readings.{read, fits64}
 

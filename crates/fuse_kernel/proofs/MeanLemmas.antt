@@ -1,11 +1,10 @@
 -- The mean by a product.
 use Rattle.std.proofs.Common.{◌≡◌, ℕ, ◌+◌, ◌*◌, ◌/◌, ◌%◌, ◌≤◌, ◌<◌, ◌∙◌, refl, arith, ap, sym}
-use Rattle.std.proofs.Math.Nat.{lt_of_mul-lt-mul_right, mod-add-div, mod-lt, mul-le-mul_left, mul-le-mul_right}
+use Rattle.std.proofs.Math.Nat.{lt_of_mul-lt-mul_right, mod-add-div, mod-lt}
 use Rattle.std.specs.Prelude.{ℤ, pos, ◌+ℤ◌, ◌-ℤ◌, ◌*ℤ◌, ◌≤ℤ◌, ◌<ℤ◌}
 use Rattle.std.proofs.lemmas.Int.{ints, to_z-of_z}
 use mir.Val.{SFits}
 use mir.Syntax.{w16}
-use Rattle.std.proofs.lemmas.Nat.{mul-le}
 use Rattle.fixed_geom.specs.Division.{round_div}
 use Rattle.fixed_geom.proofs.Floors.{floor_div_is}
 use Rattle.fixed_geom.proofs.Whole.{mul_difference, mul_sum}

@@ -1,20 +1,13 @@
 -- The update of a voxel: the mean is within its bound, and a camera's numbers are read as they are.
-use Rattle.std.proofs.Common.{◌≡◌, ℕ, ◌+◌, ◌<◌, ◌≤◌, min, refl, sym, ◌∙◌, ap, subst, arith, rules}
-use Rattle.std.specs.Prelude.{ℤ, pos, negsuc, neg_ℤ, ◌+ℤ◌, ◌*ℤ◌, ◌≤ℤ◌, ◌<ℤ◌, true, int_le, unsigned_abs}
-use Rattle.std.specs.Int.{int_min}
-use Rattle.std.proofs.lemmas.Int.{ints, clamps, to_z-of_z, fits_signed_from_abs}
-use mir.Val.{SFits, to_z, of_z}
-use mir.Syntax.{Width, w16, w32, w64}
-use Rattle.fixed_geom.specs.Division.{floor_div}
+use Rattle.std.proofs.Common.{◌≡◌, ℕ, sym, ap, subst, arith, rules}
+use Rattle.std.specs.Prelude.{ℤ, pos, negsuc, neg_ℤ, ◌≤ℤ◌, true, int_le, unsigned_abs}
+use Rattle.std.proofs.lemmas.Int.{ints}
 use Rattle.fixed_geom.specs.Vectors.{IsWithin}
-use Rattle.fixed_geom.proofs.Means.{mean_between, distance_within}
-use Rattle.fixed_geom.proofs.Floors.{floor_is, floor_above, floor_below}
-use Rattle.voxel_block.specs.declared.voxel.Voxel.{Voxel}
-use Rattle.voxel_block.specs.Voxels.{IsVoxel}
+use Rattle.fixed_geom.proofs.Means.{mean_between}
 use Rattle.camera.specs.declared.camera.CameraFields.{CameraFields}
 use Rattle.camera.specs.Cameras.{HasRanges}
 use Rattle.camera.proofs.Readings.{read}
-use Rattle.fuse_kernel.specs.Updates.{tsdf, mean, averaged}
+use Rattle.fuse_kernel.specs.Updates.{mean}
 
 -- ---- the mean
 

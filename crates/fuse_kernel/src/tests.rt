@@ -191,6 +191,9 @@ fn after_walls(alloc: Global, r: [i64; 9], t: Vec3, key: BlockKey) -> Option<(u3
     for (depth, max_weight) in [(1000_u16, 255_u8), (950, 255), (990, 2)] {
         let (camera, frame) = wide(alloc, depth)?;
         depths.fill(&camera, &frame).ok()?;
+        if max_weight == 0 {
+            return None;
+        }
         Kernel::of(&camera, &pose, &depths, max_weight).update(&mut block, key);
     }
     Some(sums(&block))

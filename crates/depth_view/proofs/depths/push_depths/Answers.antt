@@ -1,4 +1,4 @@
-use Rattle.std.proofs.Common.{◌≡◌, ◌+◌, ◌++◌, ◌∙◌, List, [], ◌∷◌, get_or, length, map, take, ap, arith, sym}
+use Rattle.std.proofs.Common.{◌≡◌, ◌++◌, ◌∙◌, List, [], ◌∷◌, get_or, length, map, take, ap, arith, sym}
 use Rattle.std.specs.Prelude.{ℤ}
 use Rattle.std.proofs.lemmas.Int.{to_z-of_z}
 use Rattle.std.proofs.lemmas.List.{append_assoc, map_more}
@@ -12,10 +12,9 @@ loop-i-preserved c =
     let f = listed_depth c.args.valid.fields in
     let one = to_z-of_z w32 c.depth.result (record { sfits = c.depth.type_inv }) ∙ c.depth.ensures in
     let y : ℤ = f (get_or c.args.samples.now c.loop-i.i 0) in
-    let before : List ℤ = map f (take c.loop-i.i c.args.samples.now) in
-    (
+    let before : List ℤ = map f (take c.loop-i.i c.args.samples.now) in (
       c.push_reserved.ensures.items ∙ ap (λ x. c.loop-i.depths.items ++ x ∷ []) one ∙ ap (λ xs. xs ++ y ∷ []) c.loop-i.invariant.0 ∙ append_assoc c.args.depths.now.items before (y ∷ [])
-      ∙ ap (λ xs. c.args.depths.now.items ++ xs) (sym (map_more f c.args.samples.now c.loop-i.i 0 c.loop-i-test.true)),
+          ∙ ap (λ xs. c.args.depths.now.items ++ xs) (sym (map_more f c.args.samples.now c.loop-i.i 0 c.loop-i-test.true)),
       omega (arith, c.push_reserved.ensures.len, c.loop-i.invariant.1),
       c.push_reserved.ensures.capacity ∙ c.loop-i.invariant.2,
     )

@@ -1,6 +1,5 @@
-use Rattle.std.proofs.Common.{◌≡◌, ℕ, ◌∙◌, refl, arith}
-use Rattle.std.specs.Prelude.{pos, ◌≤ℤ◌, Option, None, Some}
-use Rattle.std.proofs.lemmas.Int.{ints}
+use Rattle.std.proofs.Common.{◌∙◌, refl}
+use Rattle.std.specs.Prelude.{None, Some}
 use Rattle.fuse_kernel.proofs.PixelLemmas.{axis_found, axis_read, front_read, project_is}
 use Rattle.fuse_kernel.proofs.kernel.Kernel.pixel.Goals as goal
 
