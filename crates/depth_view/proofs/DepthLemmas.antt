@@ -5,7 +5,6 @@ use Rattle.std.proofs.lemmas.Int.{ints}
 use Rattle.camera.specs.declared.camera.CameraFields.{CameraFields}
 use Rattle.camera.specs.Cameras.{HasRanges}
 use Rattle.camera.proofs.Readings.{read, same64}
-use Rattle.fixed_geom.specs.Vectors.{IsWithin}
 use Rattle.depth_view.specs.Views.{IsValid}
 
 -- a length of a camera is read as it is

@@ -1,38 +1,11 @@
 -- Machine numbers that are read as they are.
-use Rattle.std.proofs.Common.{◌≡◌, ◌∙◌, ap, refl, subst, sym, arith}
-use Rattle.std.specs.Prelude.{ℤ, pos, negsuc, ◌+ℤ◌, ◌≤ℤ◌}
-use Rattle.std.proofs.lemmas.Int.{ints, to_z-of_z}
-use mir.Val.{SFits, to_z, of_z}
-use mir.Syntax.{w16, w32, w64}
+use Rattle.std.proofs.Common.{◌≡◌, refl, arith}
+use Rattle.std.specs.Prelude.{ℤ, pos, ◌+ℤ◌, ◌≤ℤ◌}
+use Rattle.std.proofs.lemmas.Int.{ints}
+use mir.Val.{SFits}
+use mir.Syntax.{w64}
 use Rattle.fixed_geom.specs.Vectors.{IsWithin}
 use Rattle.camera.proofs.Readings.{read, fits64}
-
--- what the machine reads of a number of 16 and of 32 bits
-abbrev pub read16 : ℤ → ℤ
-read16 z = to_z w16 (of_z w16 z)
-
-abbrev pub read32 : ℤ → ℤ
-read32 z = to_z w32 (of_z w32 z)
-
-pub fits16 : (z : ℤ) → IsWithin (pos 32767) z → SFits w16 z
-fits16 (pos n) w = record { sfits = omega (arith, ints) }
-fits16 (negsuc n) w = record { sfits = omega (arith, ints) }
-
-pub same16 : (z : ℤ) → IsWithin (pos 32767) z → read16 z ≡ z
-same16 z w = to_z-of_z w16 z (fits16 z w)
-
--- y, cast to 16 bits, is z
-pub record IsCast (y z : ℤ) : Type 0 where
-  pub fits : SFits w16 y
-  pub is : read16 y ≡ z
-  pub within : IsWithin (pos 32767) (read16 y)
-
-pub cast : (y z : ℤ) → y ≡ z → IsWithin (pos 32767) z → IsCast y z
-cast y z e w =
-    let same : read16 y ≡ z = ap read16 e ∙ same16 z w in
-    record { fits = subst (SFits w16) (sym e) (fits16 z w); is = same; within = subst (IsWithin (pos 32767)) (sym same) w }
-
--- ---- sums and products of 64 bits
 
 -- what is within 2^60 is read as it is
 pub plain_read : (n z : ℤ) → n ≤ℤ pos 1152921504606846976 → IsWithin n z → read z ≡ z

@@ -1,11 +1,10 @@
 -- The mean by a product.
 use Rattle.std.proofs.Common.{◌≡◌, ℕ, ◌+◌, ◌*◌, ◌/◌, ◌%◌, ◌≤◌, ◌<◌, ◌∙◌, refl, arith, ap, sym}
-use Rattle.std.proofs.Math.Nat.{lt_of_mul-lt-mul_right, mod-add-div, mod-lt, mul-le-mul_left, mul-le-mul_right}
+use Rattle.std.proofs.Math.Nat.{lt_of_mul-lt-mul_right, mod-add-div, mod-lt}
 use Rattle.std.specs.Prelude.{ℤ, pos, ◌+ℤ◌, ◌-ℤ◌, ◌*ℤ◌, ◌≤ℤ◌, ◌<ℤ◌}
 use Rattle.std.proofs.lemmas.Int.{ints, to_z-of_z}
 use mir.Val.{SFits}
 use mir.Syntax.{w16}
-use Rattle.std.proofs.lemmas.Nat.{mul-le}
 use Rattle.fixed_geom.specs.Division.{round_div}
 use Rattle.fixed_geom.proofs.Floors.{floor_div_is}
 use Rattle.fixed_geom.proofs.Whole.{mul_difference, mul_sum}
@@ -51,9 +50,6 @@ raised_is w m p q old new ep eq em =
 pub mean_is : (w m p q n : ℕ) (old new r : ℤ) → pos p ≡ old +ℤ pos 32768 → pos q ≡ new +ℤ pos 32768 → m ≡ w * p + q + (w + 1) / 2 → n ≡ m / (w + 1) → r ≡ pos n -ℤ pos 32768 → r ≡ mean w old new
 mean_is w m p q n old new r ep eq em en er =
     er ∙ ap (λ z. pos z -ℤ pos 32768) en ∙ sym (mean_is_floor (pos w *ℤ old +ℤ new) m (w + 1) (omega arith) (raised_is w m p q old new ep eq em))
-
-pub mean_of_none : (old new r : ℤ) → r ≡ new → r ≡ mean 0 old new
-mean_of_none old new r e = e ∙ sym (floor_div_is (pos 2 *ℤ ((pos 0 *ℤ old) +ℤ new) +ℤ pos 1) (pos 2) new (omega (arith, ints)) (record { below = omega (arith, ints); above = omega (arith, ints) }))
 
 -- as the machine reads them
 pub mean_read : (w m p q n : ℕ) (old new r : ℤ) → SFits w16 old → SFits w16 new → pos p ≡ read16 old +ℤ pos 32768 → pos q ≡ read16 new +ℤ pos 32768 → m ≡ w * p + q + (w + 1) / 2 → n ≡ m / (w + 1) → n ≤ 65535 → r ≡ pos n -ℤ pos 32768 → read16 r ≡ mean w old new

@@ -1,21 +1,13 @@
--- The update of a voxel: the mean and the truncated distance are within their bounds, and the machine reads them as they are.
-use Rattle.std.proofs.Common.{◌≡◌, ℕ, ◌+◌, ◌<◌, ◌≤◌, min, refl, sym, ◌∙◌, ap, subst, arith, rules}
-use Rattle.std.specs.Prelude.{ℤ, pos, negsuc, neg_ℤ, ◌+ℤ◌, ◌*ℤ◌, ◌≤ℤ◌, ◌<ℤ◌, true, int_le, unsigned_abs}
-use Rattle.std.specs.Int.{int_min}
-use Rattle.std.proofs.lemmas.Int.{ints, clamps, to_z-of_z, fits_signed_from_abs}
-use mir.Val.{SFits, to_z, of_z}
-use mir.Syntax.{Width, w16, w32, w64}
-use Rattle.fixed_geom.specs.Division.{floor_div}
+-- The update of a voxel: the mean is within its bound, and a camera's numbers are read as they are.
+use Rattle.std.proofs.Common.{◌≡◌, ℕ, sym, ap, subst, arith, rules}
+use Rattle.std.specs.Prelude.{ℤ, pos, negsuc, neg_ℤ, ◌≤ℤ◌, true, int_le, unsigned_abs}
+use Rattle.std.proofs.lemmas.Int.{ints}
 use Rattle.fixed_geom.specs.Vectors.{IsWithin}
-use Rattle.fixed_geom.proofs.Means.{mean_between, distance_within}
-use Rattle.fixed_geom.proofs.Floors.{floor_is, floor_above, floor_below}
-use Rattle.voxel_block.specs.declared.voxel.Voxel.{Voxel}
-use Rattle.voxel_block.specs.Voxels.{IsVoxel}
+use Rattle.fixed_geom.proofs.Means.{mean_between}
 use Rattle.camera.specs.declared.camera.CameraFields.{CameraFields}
 use Rattle.camera.specs.Cameras.{HasRanges}
 use Rattle.camera.proofs.Readings.{read}
-use Rattle.fuse_kernel.specs.Updates.{tsdf, mean, averaged}
-use Rattle.fuse_kernel.proofs.Machine.{IsCast, cast, read16, read32, same16}
+use Rattle.fuse_kernel.specs.Updates.{mean}
 
 -- ---- the mean
 
@@ -43,24 +35,6 @@ mu_positive k r = omega (arith, ints, r.voxel, r.mu)
 
 pub mu_within : (k : CameraFields) → HasRanges k → IsWithin (pos 1000000) k.mu
 mu_within k r = record { low = omega (arith, ints, r.voxel, r.mu); high = r.mu_high }
-
--- the average, as the machine makes it
-pub averaged_read : (mu : ℤ) (n : ℕ) (eta : ℤ) (v : Voxel) (m d : ℤ) (w : ℕ) → SFits w16 v.f → SFits w64 eta → read mu ≡ mu
-    → m ≡ mean v.w (read16 v.f) (read16 d) → IsWithin (pos 32767) m → d ≡ tsdf (read mu) (read eta) → IsWithin (pos 32767) d → w ≡ min (v.w + 1) n
-    → record { f = read16 m; w = w } ≡ averaged mu n eta v
-averaged_read mu n eta v m d w fits eta_fits is em mb ed db ew =
-    let distance : read16 m ≡ mean v.w v.f (tsdf mu eta) = same16 m mb ∙ em ∙ rw (to_z-of_z w16 v.f fits, same16 d db, ed, is, to_z-of_z w64 eta eta_fits) refl in
-    λ k. record { f = distance k; w = ew k }
-
--- what has a weight is a voxel
-pub weighted_is_voxel : (m : ℤ) (n w top : ℕ) → IsWithin (pos 32767) m → w ≡ min (n + 1) top → 1 ≤ top → IsVoxel (record { f = read16 m; w = w })
-weighted_is_voxel m n w top b e h = record { in_range = λ x. outside m b x; unobserved = λ z. absurd (weighs n w top e h z) }
-  where
-    outside : (m : ℤ) → IsWithin (pos 32767) m → read16 m ≡ negsuc 32767 → ⊥
-    outside m b x = let same = same16 m b in let is : m ≡ negsuc 32767 = sym same ∙ x in omega (arith, ints)
-
-    weighs : (n w top : ℕ) → w ≡ min (n + 1) top → 1 ≤ top → w ≡ 0 → ⊥
-    weighs n w top e h z = omega arith
 
 -- a number of pixels
 pub size_read : (z : ℤ) → pos 1 ≤ℤ z → z ≤ℤ pos 2048 → pos (unsigned_abs (read z)) ≡ z

@@ -11,8 +11,9 @@ ghost use Rattle.depth_view.specs.Views.{FitsImage, depth_list, view_of};
 ghost use Rattle.fuse_kernel.specs.Updates.{averaged as averaged_of, signed_distance as signed_distance_by, signed_distance_of, updated};
 ghost use Rattle.fuse_kernel.specs.VoxelSteps.{HasStepBounds, updated_to, voxel_steps_of};
 
+use crate::estimates::Estimates;
 use crate::mean::Reciprocals;
-use crate::pixel_axis::{PixelAxis, inverse};
+use crate::pixel_axis::PixelAxis;
 use crate::truncation::Truncation;
 use crate::voxel_steps::VoxelSteps;
 use camera::Camera;
@@ -74,13 +75,14 @@ impl<'a> Kernel<'a> {
             return;
         }
         let steps = VoxelSteps::make(self.camera, self.pose, key);
+        let estimates = Estimates::of(&steps, &self.columns, &self.rows);
         for row in 0..64 {
-            self.update_row(block, row, &steps);
+            self.update_row(block, row, &steps, &estimates);
         }
     }
 
     /// Updates the 8 voxels of a row along x.
-    fn update_row(&self, block: &mut Block, row: u16, steps: &VoxelSteps)
+    fn update_row(&self, block: &mut Block, row: u16, steps: &VoxelSteps, estimates: &Estimates)
         requires steps { HasStepBounds steps.now }
         requires row { row < 64 }
         ensures { (frame : DepthMap) (m : PoseOf) (b : Key) (voxels : List VoxelOf)
@@ -89,15 +91,17 @@ impl<'a> Kernel<'a> {
             → block.old ≡ updated_to (view_of self.now.camera.now m frame) self.now.max_weight b (8 * row) voxels
             → block.new ≡ updated_to (view_of self.now.camera.now m frame) self.now.max_weight b (8 * (row + 1)) voxels }
     {
+        let estimates = estimates.row(row);
         let mut near_cam_q30 = steps.row(row);
         for x in 0..8 {
-            self.update_voxel(block, 8 * row + x, near_cam_q30.point());
+            let estimate = (estimates.u[usize::from(x)], estimates.v[usize::from(x)]);
+            self.update_voxel(block, 8 * row + x, near_cam_q30.point(), estimate);
             near_cam_q30 = near_cam_q30.plus(steps.x);
         }
     }
 
-    /// Updates a voxel, by its camera point. It is read only where the frame meets it.
-    fn update_voxel(&self, block: &mut Block, i: u16, point: Vec3)
+    /// Updates a voxel, by its camera point and an estimate of its pixel. It is read only where the frame meets it.
+    fn update_voxel(&self, block: &mut Block, i: u16, point: Vec3, estimate: (i16, i16))
         requires index { i < 512 }
         requires point { AreWithin (pos (2 ^ 26)) point }
         ensures { (frame : DepthMap) (m : PoseOf) (b : Key) (voxels : List VoxelOf)
@@ -106,28 +110,28 @@ impl<'a> Kernel<'a> {
             → block.old ≡ updated_to (view_of self.now.camera.now m frame) self.now.max_weight b i voxels
             → block.new ≡ updated_to (view_of self.now.camera.now m frame) self.now.max_weight b (i + 1) voxels }
     {
-        if let Some(eta) = self.signed_distance(point) {
+        if let Some(eta) = self.signed_distance(point, estimate) {
             let voxel = self.averaged(eta, block.get(i));
             block.set(i, voxel);
         }
     }
 
     /// How far a camera point lies in front of what its pixel shows. `None` where the frame does not meet it.
-    fn signed_distance(&self, point: Vec3) -> Option<i64>
+    fn signed_distance(&self, point: Vec3, estimate: (i16, i16)) -> Option<i64>
         requires point { AreWithin (pos (2 ^ 26)) point }
         ensures value { (frame : DepthMap) (m : PoseOf) → FitsImage self.now.camera.now frame → self.now.depths.now ≡ depth_list self.now.camera.now frame
             → result ≡ signed_distance_of (view_of self.now.camera.now m frame) point }
         ensures bound { IfSome result (λ eta. IsWithin (pos (2 ^ 33)) eta) }
         ensures front { IfSome result (λ eta. (neg_ℤ self.now.camera.now.mu) ≤ℤ eta) }
     {
-        let (u, v) = self.pixel(point)?;
+        let (u, v) = self.pixel(point, estimate)?;
         let depth = self.depths.at(index(self.columns.size, u, v));
         signed_distance(self.truncation.mu, point.z, depth)
     }
 
     /// The pixel (column, row) that a camera point projects to. `None` where the point is not in front of the camera, or
     /// the pixel nearest to it is not one of the image's.
-    fn pixel(&self, point: Vec3) -> Option<(usize, usize)>
+    fn pixel(&self, point: Vec3, estimate: (i16, i16)) -> Option<(usize, usize)>
         requires point { AreWithin (pos (2 ^ 26)) point }
         ensures value { result ≡ project self.now.camera.now point }
         ensures bound { IfSome result (λ p. (p.0 < 2048) × (p.1 < 2048)) }
@@ -135,9 +139,8 @@ impl<'a> Kernel<'a> {
         if point.z <= 0 {
             return None;
         }
-        let inverse = inverse(point.z);
-        let u = self.columns.inside(point.x, point.z, inverse)?;
-        let v = self.rows.inside(point.y, point.z, inverse)?;
+        let u = self.columns.inside(point.x, point.z, estimate.0)?;
+        let v = self.rows.inside(point.y, point.z, estimate.1)?;
         Some((u, v))
     }
 

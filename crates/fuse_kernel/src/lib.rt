@@ -2,6 +2,7 @@
 #![tactic(auto)]
 
 mod corner;
+mod estimates;
 mod kernel;
 pub mod laws;
 mod mean;

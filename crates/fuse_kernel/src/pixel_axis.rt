@@ -1,18 +1,9 @@
-//! One coordinate of the pixel that a point projects to: it is estimated in floats, and the estimate is tested by products.
+//! One coordinate of the pixel that a point projects to, by an estimate that is tested by products.
 ghost use Rattle.std.specs.Prelude.{◌≡◌, ◌^◌, ◌≤◌, ◌<◌, ◌↔◌, IsTrue, IfSome, Some, None, if◌then◌else◌, pos, negsuc, ◌+ℤ◌, ◌-ℤ◌, ◌*ℤ◌, ◌≤ℤ◌, ◌<ℤ◌, unsigned_abs};
 ghost use Rattle.fixed_geom.specs.Division.{floor_div};
 ghost use Rattle.fixed_geom.specs.Vectors.{IsWithin};
 ghost use Rattle.camera.specs.Cameras.{pixel_axis as pixel_of, within};
 ghost use Rattle.fuse_kernel.specs.Pixels.{raised_pixel};
-
-use std::num::f64_to_bits_with_nan;
-
-/// By how much an estimate is raised, in pixels, before it is cut to a whole one: whole quotients are frequent, and an
-/// error of the floats must not take one for less.
-const ROUNDING: f64 = 1e-7;
-
-/// A float of this size has whole numbers in its last bits. The estimates are raised by 8192 as well.
-const WHOLE: f64 = 6_755_399_441_063_936.0;
 
 /// What one coordinate of a camera's pixels is made of.
 #[derive(Clone, Copy)]
@@ -23,9 +14,6 @@ pub(crate) struct PixelAxis {
     pub(crate) f: i64,
     /// The centre, in 1/65536 pixel.
     pub(crate) c: i64,
-    /// The focal length and the centre in pixels, for estimates.
-    focal: f64,
-    centre: f64,
     ghost size_most: { size ≤ 2048 },
     ghost f_within: { IsWithin (pos (2 ^ 30)) f },
     ghost c_within: { IsWithin (pos (2 ^ 27)) c },
@@ -40,61 +28,30 @@ impl PixelAxis {
         ensures f { result.f ≡ f }
         ensures c { result.c ≡ c }
     {
-        PixelAxis {
-            size,
-            f,
-            c,
-            focal: float(f) / 65536.0,
-            centre: float(c) / 65536.0 + ROUNDING,
-        }
+        PixelAxis { size, f, c }
     }
 
     /// The coordinate of the pixel nearest to where the point projects that is `x` from the axis at the depth `z`. `None`
-    /// where that pixel is not one of the image's. `inverse` is that of the depth, for the estimate alone.
-    pub(crate) fn inside(&self, x: i64, z: i64, inverse: f64) -> Option<usize>
+    /// where that pixel is not one of the image's. Where the estimate is right no division is made.
+    pub(crate) fn inside(&self, x: i64, z: i64, estimate: i16) -> Option<usize>
         requires x { IsWithin (pos (2 ^ 26)) x }
         requires z { IsWithin (pos (2 ^ 26)) z }
         requires front { pos 1 ≤ℤ z }
         ensures value { result ≡ (if within (pos 0) (pos self.now.size -ℤ pos 1) (pixel_of self.now.f self.now.c x z) then Some (unsigned_abs (pixel_of self.now.f self.now.c x z)) else None) }
         ensures bound { IfSome result (λ u. u < 2048) }
     {
-        index_below(self.size, self.pixel(x, z, inverse))
+        index_below(self.size, self.pixel(x, z, estimate))
     }
 
-    /// The coordinate of that pixel, of the image or not. Where the estimate is right no division is made.
-    fn pixel(&self, x: i64, z: i64, inverse: f64) -> i64
+    /// The coordinate of that pixel, of the image or not.
+    fn pixel(&self, x: i64, z: i64, estimate: i16) -> i64
         requires x { IsWithin (pos (2 ^ 26)) x }
         requires z { IsWithin (pos (2 ^ 26)) z }
         requires front { pos 1 ≤ℤ z }
         ensures { result ≡ pixel_of self.now.f self.now.c x z }
     {
-        let estimate = estimate(float(x) * self.focal * inverse + self.centre);
-        pixel(self.f, self.c + 32768, x, z, estimate)
+        pixel(self.f, self.c + 32768, x, z, i64::from(estimate))
     }
-}
-
-/// The inverse of a depth, for estimates.
-pub(crate) fn inverse(z: i64) -> f64
-    requires { IsWithin (pos (2 ^ 26)) z }
-{
-    1.0 / float(z)
-}
-
-/// A number as a float.
-fn float(x: i64) -> f64
-    requires { IsWithin (pos (2 ^ 30)) x }
-{
-    f64::from(x as i32)
-}
-
-/// The whole number below a coordinate, where the coordinate is in the range that the result has. Nothing is known of it
-/// but that range.
-fn estimate(coordinate: f64) -> i64
-    ensures low { (negsuc 8191) ≤ℤ result }
-    ensures high { result ≤ℤ pos 24575 }
-{
-    let bits = f64_to_bits_with_nan(coordinate + WHOLE);
-    (bits & 0x7fff) as i64 - 8192
 }
 
 /// The pixel as an index, where it is one of the first `size` ones.
@@ -126,8 +83,8 @@ fn pixel(f: i64, k: i64, x: i64, z: i64, estimate: i64) -> i64
     requires x { IsWithin (pos (2 ^ 26)) x }
     requires z { IsWithin (pos (2 ^ 26)) z }
     requires front { pos 1 ≤ℤ z }
-    requires low { (negsuc 8191) ≤ℤ estimate }
-    requires high { estimate ≤ℤ pos 24575 }
+    requires low { (negsuc 32767) ≤ℤ estimate }
+    requires high { estimate ≤ℤ pos 32767 }
     ensures { result ≡ raised_pixel f k x z }
 {
     if is_pixel(f, k, x, z, estimate) {
@@ -142,8 +99,8 @@ fn is_pixel(f: i64, k: i64, x: i64, z: i64, estimate: i64) -> bool
     requires k { IsWithin (pos (2 ^ 28)) k }
     requires x { IsWithin (pos (2 ^ 26)) x }
     requires z { IsWithin (pos (2 ^ 26)) z }
-    requires low { (negsuc 8191) ≤ℤ estimate }
-    requires high { estimate ≤ℤ pos 24575 }
+    requires low { (negsuc 32767) ≤ℤ estimate }
+    requires high { estimate ≤ℤ pos 32767 }
     ensures { IsTrue result ↔ ((pos 1 ≤ℤ z) × (estimate ≡ raised_pixel f k x z)) }
 {
     is_rest(rest(f, k, x, z, estimate), 65536 * z)
@@ -155,10 +112,10 @@ fn rest(f: i64, k: i64, x: i64, z: i64, estimate: i64) -> i64
     requires k { IsWithin (pos (2 ^ 28)) k }
     requires x { IsWithin (pos (2 ^ 26)) x }
     requires z { IsWithin (pos (2 ^ 26)) z }
-    requires low { (negsuc 8191) ≤ℤ estimate }
-    requires high { estimate ≤ℤ pos 24575 }
+    requires low { (negsuc 32767) ≤ℤ estimate }
+    requires high { estimate ≤ℤ pos 32767 }
     ensures value { result ≡ (f *ℤ x) +ℤ ((k -ℤ pos 65536 *ℤ estimate) *ℤ z) }
-    ensures bound { IsWithin (pos (2 ^ 58)) result }
+    ensures bound { IsWithin (pos (2 ^ 59)) result }
 {
     times(f, x) + times(offset(k, estimate), z)
 }
@@ -166,19 +123,19 @@ fn rest(f: i64, k: i64, x: i64, z: i64, estimate: i64) -> i64
 /// The offset of the centre from the estimate.
 fn offset(k: i64, estimate: i64) -> i64
     requires k { IsWithin (pos (2 ^ 28)) k }
-    requires low { (negsuc 8191) ≤ℤ estimate }
-    requires high { estimate ≤ℤ pos 24575 }
+    requires low { (negsuc 32767) ≤ℤ estimate }
+    requires high { estimate ≤ℤ pos 32767 }
     ensures value { result ≡ k -ℤ pos 65536 *ℤ estimate }
-    ensures bound { IsWithin (pos (2 ^ 31)) result }
+    ensures bound { IsWithin (pos (2 ^ 32)) result }
 {
     k - 65536 * estimate
 }
 
 fn times(a: i64, b: i64) -> i64
-    requires a { IsWithin (pos (2 ^ 31)) a }
+    requires a { IsWithin (pos (2 ^ 32)) a }
     requires b { IsWithin (pos (2 ^ 26)) b }
     ensures value { result ≡ a *ℤ b }
-    ensures bound { IsWithin (pos (2 ^ 57)) result }
+    ensures bound { IsWithin (pos (2 ^ 58)) result }
 {
     a * b
 }

@@ -2,9 +2,12 @@ ghost use Rattle.std.specs.Prelude.{◌≡◌, ◌≤◌, IfSome, vec_len};
 ghost use Rattle.depth_view.specs.Views.{FitsImage};
 
 use crate::Kernel;
+use crate::estimates::Estimates;
 use crate::mean::Reciprocals;
-use crate::pixel_axis::{PixelAxis, inverse};
+use crate::near_cam_q30::NearCamQ30;
+use crate::pixel_axis::PixelAxis;
 use crate::truncation::Truncation;
+use crate::voxel_steps::VoxelSteps;
 use camera::{Camera, CameraFields};
 use depth_frame::DepthFrame;
 use depth_view::Depths;
@@ -188,6 +191,9 @@ fn after_walls(alloc: Global, r: [i64; 9], t: Vec3, key: BlockKey) -> Option<(u3
     for (depth, max_weight) in [(1000_u16, 255_u8), (950, 255), (990, 2)] {
         let (camera, frame) = wide(alloc, depth)?;
         depths.fill(&camera, &frame).ok()?;
+        if max_weight == 0 {
+            return None;
+        }
         Kernel::of(&camera, &pose, &depths, max_weight).update(&mut block, key);
     }
     Some(sums(&block))
@@ -357,9 +363,51 @@ fn pixels_are_exact_at_their_edges(rt: HostRuntime) {
         (67108864, 1, None),
         (-67108864, 1, None),
     ] {
-        assert_eq!(rt; axis.inside(x, z, inverse(z)), expected);
-        // An estimate by another depth is wrong, and makes no difference.
-        assert_eq!(rt; axis.inside(x, z, inverse(z + 1000)), expected);
-        assert_eq!(rt; axis.inside(x, z, 0.0), expected);
+        // No estimate makes a difference, be it right or wrong.
+        for estimate in [-32768, -1, 0, 1, 319, 320, 321, 639, 640, 32767] {
+            assert_eq!(rt; axis.inside(x, z, estimate), expected);
+        }
+    }
+}
+
+// Expected by the rule: the floors of 500 x / z + 320.5 and of 500 y / z + 240.5, of the voxels of a block of 1 cm voxels
+// whose corner is 1 metre before the camera.
+#[test]
+fn estimates_are_the_pixels(rt: HostRuntime) {
+    let step = 10000 * ONE;
+    let steps = VoxelSteps {
+        corner: NearCamQ30 {
+            x: 0,
+            y: 0,
+            z: 1000000 * ONE,
+        },
+        x: NearCamQ30 {
+            x: step,
+            y: 0,
+            z: 0,
+        },
+        y: NearCamQ30 {
+            x: 0,
+            y: step,
+            z: 0,
+        },
+        z: NearCamQ30 {
+            x: 0,
+            y: 0,
+            z: step,
+        },
+    };
+    let columns = PixelAxis::of(640, 500 * 65536, 320 * 65536);
+    let rows = PixelAxis::of(480, 500 * 65536, 240 * 65536);
+    let estimates = Estimates::of(&steps, &columns, &rows);
+    for (row, u, v) in [
+        (0, [320, 325, 330, 335, 340, 345, 350, 355], 240),
+        (7, [320, 325, 330, 335, 340, 345, 350, 355], 275),
+        (9, [320, 325, 330, 335, 340, 345, 350, 355], 245),
+        (63, [320, 325, 329, 334, 339, 343, 348, 353], 273),
+    ] {
+        let found = estimates.row(row);
+        assert_eq!(rt; found.u, u);
+        assert_eq!(rt; found.v, [v; 8]);
     }
 }

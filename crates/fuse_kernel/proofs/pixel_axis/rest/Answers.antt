@@ -13,4 +13,4 @@ returns-clause-value c =
     c.times.ensures.value c.offset.ensures.value c.times-2.ensures.value c.times.ensures.bound c.offset.ensures.bound c.times-2.ensures.bound
 
 pub returns-clause-bound : goal.returns-clause-bound
-returns-clause-bound c = subst (IsWithin (pos 288230376151711744)) (sym (pair_read c.times.result c.times-2.result c.times.ensures.bound c.times-2.ensures.bound)) (pair_within c.times.result c.times-2.result c.times.ensures.bound c.times-2.ensures.bound)
+returns-clause-bound c = subst (IsWithin (pos 576460752303423488)) (sym (pair_read c.times.result c.times-2.result c.times.ensures.bound c.times-2.ensures.bound)) (pair_within c.times.result c.times-2.result c.times.ensures.bound c.times-2.ensures.bound)

@@ -7,7 +7,7 @@ use Rattle.fixed_geom.proofs.Machine.{product_read}
 use Rattle.fuse_kernel.proofs.pixel_axis.times.Goals as goal
 
 pub returns-clause-value : goal.returns-clause-value
-returns-clause-value c = rw (to_z-of_z _ _ c.ranges.a, to_z-of_z _ _ c.ranges.b) (product_read 2147483648 67108864 c.args.a c.args.b (omega arith) c.requires.a c.requires.b)
+returns-clause-value c = rw (to_z-of_z _ _ c.ranges.a, to_z-of_z _ _ c.ranges.b) (product_read 4294967296 67108864 c.args.a c.args.b (omega arith) c.requires.a c.requires.b)
 
 pub returns-clause-bound : goal.returns-clause-bound
-returns-clause-bound c = subst (IsWithin (pos 144115188075855872)) (sym (returns-clause-value c)) (within_product (pos 2147483648) (pos 67108864) c.args.a c.args.b c.requires.a c.requires.b)
+returns-clause-bound c = subst (IsWithin (pos 288230376151711744)) (sym (returns-clause-value c)) (within_product (pos 4294967296) (pos 67108864) c.args.a c.args.b c.requires.a c.requires.b)
