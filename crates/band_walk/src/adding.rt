@@ -8,13 +8,14 @@ ghost use Rattle.band_walk.specs.Remaining.{segment_blocks_of};
 use crate::band::Band;
 use crate::memo::Memo;
 use crate::segment::Segment;
-use depth_view::depth_at;
 use std::alloc::AllocError;
 use voxel_block::BlockKey;
 
 impl<'a> Band<'a> {
-    /// The keys of the blocks of row `v` that the memo has not noted, each time it comes to one. They are noted, and take
-    /// the place of what was in `keys`.
+    /// Puts into `keys`, in place of what was there, the keys of those blocks of row `v` that the memo has not noted, and
+    /// notes them. A key comes more than once where another one took its slot of the memo in between.
+    ///
+    /// Out of memory, `keys` may have some of them, and what is noted since then is among these.
     pub fn new_keys(
         &self,
         v: u32,
@@ -46,7 +47,7 @@ impl<'a> Band<'a> {
         ensures added { IfOk result (λ _. HasAdded (pixel_blocks (view_of_band self.now) u v) memo.old keys.old.items memo.new keys.new.items) }
         ensures grown { IsGrown memo.old keys.old.items memo.new keys.new.items }
     {
-        match depth_at(self.camera, self.frame, u, v) {
+        match self.depth(u, v) {
             Some(d) => self.add_segment(self.segment(u, v, d), memo, keys),
             None => Ok(()),
         }

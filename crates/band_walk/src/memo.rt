@@ -11,8 +11,8 @@ use voxel_block::BlockKey;
 /// The number of words of a memo.
 const WORDS: usize = 32768;
 
-/// A memo of keys: some of those that were noted in it since it was emptied, and no other. A key takes the place of one
-/// that was noted before in the same slot.
+/// A memo of keys: some of those that were noted in it since it was emptied, and no other. A key that is noted takes the
+/// place of the one that was noted in its slot before.
 #[derive(Drop)]
 pub struct Memo {
     words: Vec<u64>,
@@ -44,7 +44,7 @@ impl Memo {
         self.words.as_mut_slice().fill(0);
     }
 
-    /// Notes a key, and adds it to `keys`, unless the memo has noted it. Both stay as they are where memory is wanting.
+    /// Notes a key, and adds it to `keys`, unless the memo has noted it. Out of memory, both stay as they are.
     pub(crate) fn add(
         &mut self,
         block: RaisedKey,
@@ -76,7 +76,7 @@ impl Memo {
     }
 }
 
-/// The slot of a key's word: keys near each other have different slots.
+/// The slot of a key's word. The blocks of a box of 64 by 32 by 16 have slots of their own.
 fn slot(word: u64) -> usize
     ensures { result < 32768 }
 {

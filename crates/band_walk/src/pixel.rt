@@ -1,8 +1,9 @@
-ghost use Rattle.std.specs.Prelude.{◌≡◌, ◌<◌, [], pos, ◌+ℤ◌, ◌-ℤ◌, ◌≤ℤ◌};
+ghost use Rattle.std.specs.Prelude.{◌≡◌, ◌<◌, [], pos, ◌+ℤ◌, ◌-ℤ◌, ◌≤ℤ◌, IfSome};
 ghost use Rattle.std.specs.Int.{int_max};
 ghost use Rattle.fixed_geom.specs.Poses.{world};
 ghost use Rattle.fixed_geom.specs.Vectors.{AreWithin};
 ghost use Rattle.camera.specs.Cameras.{HasRanges, max_depth, ray as ray_of};
+ghost use Rattle.depth_view.specs.Views.{depth_at};
 ghost use Rattle.band_walk.specs.BandViews.{view_of_band};
 ghost use Rattle.band_walk.specs.Bands.{pixel_blocks, segment_end, segment_start, steps_of};
 ghost use Rattle.band_walk.specs.Remaining.{IsSamples, sample_blocks_from};
@@ -11,7 +12,6 @@ use crate::band::Band;
 use crate::samples::Samples;
 use crate::segment::Segment;
 use camera::CameraFields;
-use depth_view::depth_at;
 use fixed_geom::Vec3;
 
 impl<'a> Band<'a> {
@@ -22,7 +22,7 @@ impl<'a> Band<'a> {
         ensures remaining { sample_blocks_from result ≡ pixel_blocks (view_of_band self.now) u v }
         ensures samples { IsSamples result }
     {
-        match depth_at(self.camera, self.frame, u, v) {
+        match self.depth(u, v) {
             Some(d) => Samples::of(self.side, self.segment(u, v, d)),
             None => self.no_samples(),
         }
@@ -38,6 +38,16 @@ impl<'a> Band<'a> {
             self.side,
             Segment::between(self.side, &self.steps, origin, origin),
         )
+    }
+
+    /// The depth that a pixel shows. `None` where its sample is not valid.
+    pub(crate) fn depth(&self, u: u32, v: u32) -> Option<i64>
+        requires column { u < self.now.frame.now.width }
+        requires row { v < self.now.frame.now.height }
+        ensures value { result ≡ depth_at (view_of_band self.now) u v }
+        ensures range { IfSome result (λ d. (pos 1 ≤ℤ d) × (d ≤ℤ self.now.camera.now.far)) }
+    {
+        self.range.depth(self.frame.at(u, v))
     }
 
     /// The segment round the depth `d` of a pixel.

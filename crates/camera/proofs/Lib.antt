@@ -15,6 +15,7 @@ pub mod RayBack
 pub mod RayLemmas
 pub mod Readings
 pub mod Visible
+pub mod SampleLemmas
 pub mod SlopeLemmas
 pub mod SphereLemmas
 pub mod VisibilityLemmas

@@ -2,5 +2,6 @@ pub mod Cameras
 pub mod Grid
 pub mod Laws
 pub mod Opening
+pub mod SampleRanges
 pub mod Slopes
 pub mod Visibility

@@ -7,6 +7,7 @@ pub mod laws;
 mod opening;
 mod projection;
 mod ray;
+mod sample_range;
 mod shared;
 mod slopes;
 mod sphere;
@@ -14,6 +15,7 @@ mod visibility;
 
 pub use camera::{BadCamera, Camera, CameraFields, Sight};
 pub use opening::first_failing;
+pub use sample_range::SampleRange;
 pub use slopes::Slopes;
 
 #[cfg(test)]

@@ -208,6 +208,28 @@ fn point_of(slopes: &Slopes, u: u32, v: u32, z: i64) -> Option<Vec3>
 }
 
 #[test]
+fn samples_have_a_range(rt: HostRuntime) -> Result<(), BadCamera> {
+    let even = SampleRange::of(&Camera::make(BASE)?);
+    let odd = SampleRange::of(&Camera::make(CameraFields { unit: 997, ..BASE })?);
+    is_shared(&even);
+    for (name, range, raw, depth) in [
+        ("no sample", even, 0, None),
+        ("before near", even, 499, None),
+        ("near", even, 500, Some(500000)),
+        ("far", even, 2000, Some(2000000)),
+        ("past far", even, 2001, None),
+        ("before near, in another unit", odd, 501, None),
+        ("after near", odd, 502, Some(500494)),
+        ("before far", odd, 2006, Some(1999982)),
+        ("past far, in another unit", odd, 2007, None),
+        ("the greatest sample", odd, 65535, None),
+    ] {
+        assert_eq!(rt; range.depth(raw), depth, "{name}");
+    }
+    Ok(())
+}
+
+#[test]
 fn slopes_give_the_points_of_rays(rt: HostRuntime) -> Result<(), Fail> {
     // The centre is in the middle of the image, one and a half pixels from the outer ones; the focal lengths are 3 and
     // 5 pixels.
