@@ -1,0 +1,13 @@
+//! Renders: the picture that a camera would take of a map, as a depth map.
+#![tactic(auto)]
+
+mod last_block;
+pub mod laws;
+mod picture;
+mod row;
+mod surface;
+
+pub use picture::{render, render_row};
+
+#[cfg(test)]
+mod tests;
