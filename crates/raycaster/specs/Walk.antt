@@ -40,13 +40,13 @@ value_of m c = value_in (get m (block_of_voxel c)) (index_of_voxel c)
 
 -- ---- the walk of a pixel
 
--- the number of points of each walk: their depths are those of near + j s that are at most far, where s is the voxel size
+-- the number of points of each walk: their depths are those of near + s j that are at most far, where s is the voxel size
 abbrev pub point_count : CameraFields → ℕ
 point_count k = unsigned_abs (floor_div (k.far -ℤ k.near) k.voxel) + 1
 
 -- the depth of point j
 abbrev pub point_depth : CameraFields → (j : ℕ) → ℤ
-point_depth k j = k.near +ℤ pos j *ℤ k.voxel
+point_depth k j = k.near +ℤ k.voxel *ℤ pos j
 
 -- the coordinates of the voxel nearest to the point at depth z of a pixel's ray
 abbrev pub voxel_at : CameraFields → Pose → (u v : ℕ) → (z : ℤ) → Vec3

@@ -1,9 +1,11 @@
 //! Renders: the picture that a camera would take of a map, as a depth map.
 #![tactic(auto)]
 
+mod division;
 mod last_block;
 pub mod laws;
 mod picture;
+mod points;
 mod row;
 mod surface;
 

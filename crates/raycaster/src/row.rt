@@ -8,8 +8,9 @@ ghost use Rattle.raycaster.specs.Rows.{HoldsActive, IsLookedUp, IsRow, scene_of_
 ghost use Rattle.raycaster.specs.Walk.{point_count as point_count_of, point_depth as point_depth_of, point_value, sample as sample_of, voxel_at};
 
 use crate::last_block::LastBlock;
+use crate::points::{point_count, point_depth};
 use crate::surface::hit_sample;
-use camera::{Camera, CameraFields, PixelRays};
+use camera::{Camera, PixelRays};
 use fixed_geom::Pose;
 use streamer::Rest;
 use voxel_block::BlockKey;
@@ -118,24 +119,4 @@ impl<'a> Row<'a> {
             None => unreachable!(),
         }
     }
-}
-
-/// The number of points of a walk.
-fn point_count(camera: &CameraFields) -> u32
-    requires { HasRanges camera.now }
-    ensures value { result ≡ point_count_of camera.now }
-    ensures few { result ≤ 16000 }
-{
-    ((camera.far - camera.near).div_euclid(camera.voxel) + 1) as u32
-}
-
-/// The depth of point `j` of a walk.
-fn point_depth(camera: &CameraFields, j: u32) -> i64
-    requires ranges { HasRanges camera.now }
-    requires point { j < point_count_of camera.now }
-    ensures value { result ≡ point_depth_of camera.now j }
-    ensures near { camera.now.near ≤ℤ result }
-    ensures far { result ≤ℤ camera.now.far }
-{
-    camera.near + i64::from(j) * camera.voxel
 }

@@ -1,9 +1,10 @@
 ghost use Rattle.std.specs.Prelude.{◌≡◌, ◌^◌, pos, ◌≤ℤ◌, ◌<ℤ◌, ◌-ℤ◌, ◌*ℤ◌, Some, None, if◌then◌else◌};
-ghost use Rattle.fixed_geom.specs.Division.{floor_div};
+ghost use Rattle.fixed_geom.specs.Division.{floor_div as floor_of};
 ghost use Rattle.fixed_geom.specs.Vectors.{IsWithin};
 ghost use Rattle.camera.specs.Cameras.{HasRanges};
 ghost use Rattle.raycaster.specs.Walk.{falls, hit_sample as hit_sample_of, sample_of_depth as sample_of_depth_of};
 
+use crate::division::{floor_div, times};
 use camera::CameraFields;
 
 /// The sample of the hit between a point at depth `z` and the next one, by their known values. `None` where the value
@@ -36,11 +37,11 @@ fn offset(size: i64, f: i64, g: i64) -> i64
     requires front_high { f ≤ℤ pos 32767 }
     requires behind { g ≤ℤ pos 0 }
     requires behind_low { IsWithin (pos 32768) g }
-    ensures value { result ≡ floor_div (size *ℤ f) (f -ℤ g) }
+    ensures value { result ≡ floor_of (size *ℤ f) (f -ℤ g) }
     ensures low { pos 0 ≤ℤ result }
     ensures high { result ≤ℤ size }
 {
-    (size * f).div_euclid(f - g)
+    floor_div(times(size, f), f - g)
 }
 
 /// The sample that shows a depth, which is cut off at the greatest one.
