@@ -2,7 +2,10 @@
 use Rattle.std.proofs.Common.{◌≡◌, ℕ, ◌+◌, ◌<◌, ◌≤◌, ◌∙◌, arith}
 use Rattle.std.specs.Prelude.{ℤ, pos, ◌+ℤ◌, ◌-ℤ◌, ◌*ℤ◌, ◌≤ℤ◌, ◌<ℤ◌, unsigned_abs, IsTrue}
 use Rattle.std.proofs.lemmas.Int.{ints, by_lt_z}
+use mir.Val.{to_z, of_z}
+use mir.Syntax.{w64}
 use Rattle.fixed_geom.specs.Division.{IsFloor, floor_div}
+use Rattle.fixed_geom.specs.Vectors.{IsWithin}
 use Rattle.fixed_geom.specs.Poses.{Pose, IsPose}
 use Rattle.fixed_geom.proofs.Floors.{floor_is, floor_above, floor_below}
 use Rattle.fixed_geom.proofs.Whole.{mul_order, mul_sum, mul_turn}
@@ -128,3 +131,33 @@ hit_between k j f g r f0 g0 =
 
     high : (near s sj sj1 q : ℤ) → sj1 ≡ sj +ℤ s → q ≤ℤ s → (near +ℤ sj +ℤ q) ≤ℤ (near +ℤ sj1)
     high near s sj sj1 q e h = omega (arith, ints)
+
+-- ---- machine numbers
+
+-- what the machine reads of a number of 64 bits
+abbrev pub read : ℤ → ℤ
+read z = to_z w64 (of_z w64 z)
+
+pub read_difference : (near far : ℤ) → pos 1 ≤ℤ near → near ≤ℤ far → far ≤ℤ pos 16000000 → read (read far -ℤ read near) ≡ far -ℤ near
+read_difference near far a b c = omega (arith, ints)
+
+pub read_sum : (z q top : ℤ) → pos 1 ≤ℤ z → pos 0 ≤ℤ q → (z +ℤ q) ≤ℤ top → top ≤ℤ pos 17000000 → read (read z +ℤ read q) ≡ z +ℤ q
+read_sum z q top a b c d = omega (arith, ints)
+
+pub few_points : (k : CameraFields) (j : ℕ) → HasRanges k → j < point_count k → j ≤ 15999
+few_points k j r low = plain (steps k) (point_count k) j (steps_high k r) (count_is k r) low
+  where
+    plain : (q : ℤ) (n j : ℕ) → q ≤ℤ pos 15999 → pos n ≡ q +ℤ pos 1 → j < n → j ≤ 15999
+    plain q n j a b c = omega (arith, ints)
+
+pub read_few : (j : ℕ) (x : ℤ) → j ≤ 15999 → x ≡ pos j → read x ≡ pos j
+read_few j x h e = omega (arith, ints)
+
+pub product_low : (s : ℤ) (j : ℕ) → pos 0 ≤ℤ s → pos 0 ≤ℤ (s *ℤ pos j)
+product_low s j h = plain s (s *ℤ pos j) (mul_order s (pos 0) (pos j) h (omega (arith, ints)))
+  where
+    plain : (s sj : ℤ) → (s *ℤ pos 0) ≤ℤ sj → pos 0 ≤ℤ sj
+    plain s sj h = omega (arith, ints)
+
+pub read_fall : (f g : ℤ) → pos 0 <ℤ f → f ≤ℤ pos 32767 → g ≤ℤ pos 0 → IsWithin (pos 32768) g → read (read f -ℤ read g) ≡ f -ℤ g
+read_fall f g a b c d = omega (arith, ints)
