@@ -1,3 +1,4 @@
 pub mod BlockLemmas
 pub mod HitLemmas
 pub mod PointLemmas
+pub mod RowLemmas

@@ -161,3 +161,11 @@ product_low s j h = plain s (s *ℤ pos j) (mul_order s (pos 0) (pos j) h (omega
 
 pub read_fall : (f g : ℤ) → pos 0 <ℤ f → f ≤ℤ pos 32767 → g ≤ℤ pos 0 → IsWithin (pos 32768) g → read (read f -ℤ read g) ≡ f -ℤ g
 read_fall f g a b c d = omega (arith, ints)
+
+pub read_depth : (k : CameraFields) (z f g : ℤ) → HasRanges k → pos 1 ≤ℤ z → z ≤ℤ k.far → pos 0 <ℤ f → g ≤ℤ pos 0 → read (read z +ℤ read (floor_div (k.voxel *ℤ f) (f -ℤ g))) ≡ hit_depth k.voxel z f g
+read_depth k z f g r z1 zf f0 g0 =
+    let s0 : pos 0 ≤ℤ k.voxel = omega (arith, ints, r.voxel) in
+    plain z (floor_div (k.voxel *ℤ f) (f -ℤ g)) k.far k.voxel z1 zf r.far_high r.voxel_high (offset_low k.voxel f g s0 f0 g0) (offset_high k.voxel f g s0 f0 g0)
+  where
+    plain : (z q far s : ℤ) → pos 1 ≤ℤ z → z ≤ℤ far → far ≤ℤ pos 16000000 → s ≤ℤ pos 100000 → pos 0 ≤ℤ q → q ≤ℤ s → read (read z +ℤ read q) ≡ z +ℤ q
+    plain z q far s a b c d e g = read_sum z q (pos 17000000) a e (omega (arith, ints)) (omega (arith, ints))
