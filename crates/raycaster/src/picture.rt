@@ -1,4 +1,4 @@
-ghost use Rattle.std.specs.Prelude.{◌≡◌, ◌≤◌, length, pos, ◌<ℤ◌, IfOk};
+ghost use Rattle.std.specs.Prelude.{◌≡◌, ◌*◌, length, pos, ◌<ℤ◌, IfOk, vec_len};
 ghost use Rattle.streamer.specs.Places.{blocks_of};
 ghost use Rattle.raycaster.specs.Rows.{HoldsActive};
 ghost use Rattle.raycaster.specs.Walk.{all_samples, picture, row_samples, scene_of};
@@ -44,13 +44,15 @@ fn render_rows(
     requires width { pos width ≡ camera.now.width }
     requires height { pos height ≡ camera.now.height }
     requires active { HoldsActive camera.now pose.now rest.now }
-    ensures { IfOk result (λ raw. raw.items ≡ all_samples (scene_of camera.now pose.now (blocks_of rest.now))) }
+    ensures samples { IfOk result (λ raw. raw.items ≡ all_samples (scene_of camera.now pose.now (blocks_of rest.now))) }
+    ensures count { IfOk result (λ raw. vec_len raw ≡ width * height) }
 {
-    let mut row = vec![in alloc; 0_u16; width as usize]?;
+    let mut samples = vec![in alloc; 0_u16; width as usize]?;
+    let row = samples.as_mut_slice();
     let mut raw = Vec::new(alloc);
     for v in 0..height {
-        render_row(camera, pose, rest, v, &mut row);
-        raw.extend_from_slice(&row)?;
+        render_row(camera, pose, rest, v, row);
+        raw.extend_from_slice(row)?;
     }
     Ok(raw)
 }
