@@ -1,3 +1,5 @@
+ghost use Rattle.std.specs.Prelude.{◌<◌};
+
 use super::*;
 use camera::{Camera, CameraFields};
 use depth_frame::DepthFrame;
@@ -32,6 +34,13 @@ const AT_ORIGIN: PoseRows = PoseRows {
 // A voxel by its coordinates in the whole grid, and its distance. Its weight is 1.
 type Observed = ((i16, i16, i16), i16);
 
+// The offset of a voxel coordinate in its block.
+fn offset(coordinate: i16) -> u16
+    ensures { result < 8 }
+{
+    coordinate.rem_euclid(8) as u16
+}
+
 // Observes a voxel. Its block is made, where there is none and a cell is free.
 fn observe(rest: &mut Rest, voxel: Observed) {
     let ((x, y, z), f) = voxel;
@@ -40,7 +49,7 @@ fn observe(rest: &mut Rest, voxel: Observed) {
         y: y.div_euclid(8),
         z: z.div_euclid(8),
     };
-    let i = x.rem_euclid(8) + 8 * y.rem_euclid(8) + 64 * z.rem_euclid(8);
+    let i = offset(x) + 8 * offset(y) + 64 * offset(z);
     if !rest.contains(key) && rest.free_count() > 0 {
         rest.make_fresh(key);
     }
@@ -48,7 +57,7 @@ fn observe(rest: &mut Rest, voxel: Observed) {
         return;
     }
     if let Some(block) = rest.lend_mut(key) {
-        block.set(i as u16, Voxel { f, w: 1 });
+        block.set(i, Voxel { f, w: 1 });
     }
 }
 
