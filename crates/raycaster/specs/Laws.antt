@@ -3,12 +3,13 @@ use Rattle.std.specs.Prelude.{ℕ, ◌+◌, ◌≡◌, ◌↔◌, ◌<◌, false
 use Rattle.std.specs.FinMap.{FinMap, get}
 use Rattle.fixed_geom.specs.declared.vector.Vec3.{Vec3}
 use Rattle.fixed_geom.specs.Poses.{Pose, IsPose}
+use Rattle.voxel_block.specs.declared.key.BlockKey.{BlockKey}
 use Rattle.voxel_block.specs.declared.voxel.Voxel.{Voxel}
 use Rattle.voxel_block.specs.Keys.{key_cmp}
 use Rattle.camera.specs.declared.camera.CameraFields.{CameraFields}
 use Rattle.camera.specs.Cameras.{HasRanges, IsCamera, is_active}
 use Rattle.camera.specs.Grid.{block_of_voxel, index_of_voxel, is_key}
-use Rattle.raycaster.specs.Walk.{hit, hit_depth, is_hit, point_count, point_depth, value_of, voxel_at}
+use Rattle.raycaster.specs.Walk.{hit, hit_depth, is_hit, picture, point_count, point_depth, scene_of, value_of, voxel_at}
 
 -- a walk has the points from near to far and no other
 abbrev pub PointsReachFar : Type 0
@@ -43,3 +44,11 @@ NoHitIsNone = (w : List (Option ℤ)) → (hit w ≡ None) ↔ ((i : ℕ) → is
 -- the depth of a hit lies between those of its two points
 abbrev pub HitIsBetween : Type 0
 HitIsBetween = (k : CameraFields) (j : ℕ) (f g : ℤ) → HasRanges k → pos 0 <ℤ f → g ≤ℤ pos 0 → (point_depth k j ≤ℤ hit_depth k.voxel (point_depth k j) f g) × (hit_depth k.voxel (point_depth k j) f g ≤ℤ point_depth k (j + 1))
+
+-- two maps have the same blocks at the keys that are active
+pub record AgreeOnActive (k : CameraFields) (m : Pose) (a b : FinMap key_cmp (List Voxel)) : Type 0 where
+  pub same : (q : BlockKey) → IsTrue (is_active k m q) → get a q ≡ get b q
+
+-- a picture depends on the active blocks alone
+abbrev pub ActiveBlocksDecide : Type 0
+ActiveBlocksDecide = (k : CameraFields) (m : Pose) (a b : FinMap key_cmp (List Voxel)) → IsCamera k → IsPose m → AgreeOnActive k m a b → picture (scene_of k m a) ≡ picture (scene_of k m b)

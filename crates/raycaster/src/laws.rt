@@ -1,7 +1,7 @@
 //! Theorems on their own. A law is a clause of a public function, since only what a clause states is
 //! proved.
 
-ghost use Rattle.raycaster.specs.Laws.{HitIsBetween, HitIsLeast, KnownIsWeighed, NoHitIsNone, PointsReachFar, WalkIsActive};
+ghost use Rattle.raycaster.specs.Laws.{ActiveBlocksDecide, HitIsBetween, HitIsLeast, KnownIsWeighed, NoHitIsNone, PointsReachFar, WalkIsActive};
 
 /// A walk has the points from `near` to `far` and no other. The body is empty: the clause is the theorem.
 pub fn points_reach_far()
@@ -31,4 +31,9 @@ pub fn no_hit_is_none()
 /// The depth of a hit lies between those of its two points.
 pub fn hit_is_between()
     ensures { HitIsBetween }
+{}
+
+/// A picture depends on the active blocks alone: maps that agree on these have the same picture.
+pub fn active_blocks_decide()
+    ensures { ActiveBlocksDecide }
 {}

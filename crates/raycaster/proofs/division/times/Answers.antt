@@ -1,7 +1,6 @@
-use Rattle.std.proofs.Common.{◌≡◌, subst, sym, refl, arith, lit≤}
+use Rattle.std.proofs.Common.{subst, sym, refl, arith, lit≤}
 use Rattle.std.specs.Prelude.{ℤ, pos, ◌*ℤ◌}
 use Rattle.std.proofs.lemmas.Int.{ints, to_z-of_z}
-use mir.Val.{to_z, of_z}
 use mir.Syntax.{w64}
 use Rattle.fixed_geom.specs.Vectors.{IsWithin}
 use Rattle.fixed_geom.proofs.Dots.{within_product}

@@ -1,4 +1,4 @@
-use Rattle.std.proofs.Common.{◌≡◌, ℕ, ◌<◌, length, get_or}
+use Rattle.std.proofs.Common.{◌≡◌, ℕ, ◌<◌, get_or}
 use Rattle.streamer.specs.Places.{blocks_of}
 use Rattle.raycaster.specs.Walk.{sample, scene_of}
 use Rattle.raycaster.proofs.picture.render_row.Given as goal

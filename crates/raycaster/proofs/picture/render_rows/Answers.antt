@@ -1,4 +1,4 @@
-use Rattle.std.proofs.Common.{◌≡◌, ℕ, ◌+◌, ◌*◌, ◌++◌, vec_len, length, ap, sym, ◌∙◌, arith}
+use Rattle.std.proofs.Common.{◌≡◌, ℕ, ◌+◌, ◌*◌, ◌++◌, vec_len, length, sym, ◌∙◌, arith}
 use Rattle.streamer.specs.Places.{blocks_of}
 use Rattle.raycaster.specs.Walk.{row_samples, scene_of}
 use Rattle.raycaster.proofs.HitLemmas.{one_more_row}

@@ -1,11 +1,11 @@
-use Rattle.std.proofs.Common.{◌≡◌, ◌∙◌, ap, arith}
-use Rattle.std.specs.Prelude.{ℤ, pos, ◌+ℤ◌, ◌-ℤ◌, ◌*ℤ◌}
-use Rattle.std.proofs.lemmas.Int.{ints, to_z-of_z}
+use Rattle.std.proofs.Common.{◌≡◌, ◌∙◌, ap}
+use Rattle.std.specs.Prelude.{ℤ, ◌+ℤ◌, ◌-ℤ◌, ◌*ℤ◌}
+use Rattle.std.proofs.lemmas.Int.{to_z-of_z}
 use mir.Syntax.{w64}
 use Rattle.fixed_geom.specs.Division.{floor_div}
 use Rattle.camera.proofs.Readings.{fields_read}
 use Rattle.raycaster.specs.Walk.{hit_depth, sample_of_depth}
-use Rattle.raycaster.proofs.PointLemmas.{offset_low, offset_high, read, read_depth}
+use Rattle.raycaster.proofs.PointLemmas.{read, read_depth}
 use Rattle.raycaster.proofs.surface.sample_between.Goals as goal
 
 pub returns : goal.returns
