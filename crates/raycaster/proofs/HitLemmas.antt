@@ -1,0 +1,202 @@
+-- The hit of a walk.
+use Rattle.std.proofs.Common.{◌≡◌, ℕ, zero, suc, ◌+◌, ◌<◌, ◌≤◌, Bool, true, false, cond, List, [], ◌∷◌, ◌++◌, length, zero-add, refl, sym, ap, ◌∙◌, subst, inl, inr, ◌⊎◌, arith}
+use Rattle.std.specs.Prelude.{ℤ, Option, Some, None, IsTrue}
+use Rattle.std.specs.List.{find, flat_map, range_with_len}
+use Rattle.std.proofs.lemmas.Bool.{cases_lt}
+use Rattle.std.proofs.lemmas.Grind.{flat_map-append}
+use Rattle.std.proofs.lemmas.List.{append-nil, get_or_past}
+use Rattle.std.proofs.lemmas.List.FromFn.{length-map-range_with_len, get_or-map-range_with_len}
+use Rattle.camera.specs.declared.camera.CameraFields.{CameraFields}
+use Rattle.raycaster.specs.Walk.{Scene, falls, hit, hit_sample, is_hit, point_count, point_depth, point_value, sample as sample_of, sample_at, value_at, walk_points}
+
+-- ---- the first number that passes a test
+
+module _ (p : ℕ → Bool) where
+  find_none : (a n : ℕ) → ((i : ℕ) → a ≤ i → i < a + n → p i ≡ false) → find p (range_with_len a n) ≡ None
+  find_none a zero h = refl
+  find_none a (suc n) h =
+      ap (λ b. cond b (Some a) (find p (range_with_len (a + 1) n))) (h a (omega arith) (omega arith))
+      ∙ find_none (a + 1) n (λ i low high. h i (omega arith) (omega arith))
+
+  find_some : (a n j : ℕ) → a ≤ j → j < a + n → p j ≡ true → ((i : ℕ) → a ≤ i → i < j → p i ≡ false) → find p (range_with_len a n) ≡ Some j
+  find_some a zero j low high is before = absurd (omega arith)
+  find_some a (suc n) j low high is before = by (λ l. find_some (a + 1) n j (omega arith) (omega arith) is (λ i from to. before i (omega arith) to)) (cases_lt a j)
+    where
+      by : (a < j → find p (range_with_len (a + 1) n) ≡ Some j) → (a < j) ⊎ (j ≤ a) → find p (range_with_len a (suc n)) ≡ Some j
+      by next (inl l) = ap (λ b. cond b (Some a) (find p (range_with_len (a + 1) n))) (before a (omega arith) l) ∙ next l
+      by next (inr g) =
+          let same : j ≡ a = omega arith in
+          ap (λ b. cond b (Some a) (find p (range_with_len (a + 1) n))) (subst (λ i. p i ≡ true) same is) ∙ ap Some (sym same)
+
+  -- what is found
+  pub record IsFound (a n j : ℕ) : Type 0 where
+    pub low : a ≤ j
+    pub high : j < a + n
+    pub is : p j ≡ true
+    pub before : (i : ℕ) → a ≤ i → i < j → p i ≡ false
+
+  found : (a n j : ℕ) → find p (range_with_len a n) ≡ Some j → IsFound a n j
+  found a zero j e = absurd (cc)
+  found a (suc n) j e = by (λ d. found (a + 1) n j d) (p a) refl e
+    where
+      first : (i : ℕ) → p a ≡ false → a ≤ i → i < j → IsFound (a + 1) n j → (a < i) ⊎ (i ≤ a) → p i ≡ false
+      first i is from to r (inl l) = r.before i (omega arith) to
+      first i is from to r (inr g) = (let same : a ≡ i = omega arith in subst (λ k. p k ≡ false) same is)
+
+      by : (find p (range_with_len (a + 1) n) ≡ Some j → IsFound (a + 1) n j) → (b : Bool) → p a ≡ b → cond b (Some a) (find p (range_with_len (a + 1) n)) ≡ Some j → IsFound a (suc n) j
+      by next true is e =
+          let same : a ≡ j = cc in
+          record { low = omega arith; high = omega arith; is = subst (λ i. p i ≡ true) same is; before = λ i from to. absurd (omega arith) }
+      by next false is e =
+          let r = next e in
+          record { low = omega (arith, r.low); high = omega (arith, r.high); is = r.is; before = λ i from to. first i is from to r (cases_lt a i) }
+
+  found_none : (a n : ℕ) → find p (range_with_len a n) ≡ None → (i : ℕ) → a ≤ i → i < a + n → p i ≡ false
+  found_none a zero e i low high = absurd (omega arith)
+  found_none a (suc n) e i low high = by (λ d l. found_none (a + 1) n d i (omega arith) (omega arith)) (p a) refl e (cases_lt a i)
+    where
+      by : (find p (range_with_len (a + 1) n) ≡ None → a < i → p i ≡ false) → (b : Bool) → p a ≡ b → cond b (Some a) (find p (range_with_len (a + 1) n)) ≡ None → (a < i) ⊎ (i ≤ a) → p i ≡ false
+      by next true is e h = absurd (cc)
+      by next false is e (inl l) = next e l
+      by next false is e (inr g) = (let same : a ≡ i = omega arith in subst (λ k. p k ≡ false) same is)
+
+-- ---- hits
+
+falls_none : (f : Option ℤ) → falls f None ≡ false
+falls_none None = refl
+falls_none (Some f) = refl
+
+-- there is no hit at the last point or past it
+pub past_is_none : (w : List (Option ℤ)) (j : ℕ) → length w ≤ j + 1 → is_hit w j ≡ false
+past_is_none w j h = ap (falls (value_at w j)) (get_or_past w (j + 1) None h) ∙ falls_none (value_at w j)
+
+hit_inside : (w : List (Option ℤ)) (j : ℕ) → is_hit w j ≡ true → j < length w
+hit_inside w j is = by (cases_lt (j + 1) (length w))
+  where
+    by : (j + 1 < length w) ⊎ (length w ≤ j + 1) → j < length w
+    by (inl l) = omega arith
+    by (inr g) = (let e = past_is_none w j g in let z : true ≡ false = sym is ∙ e in absurd (cc))
+
+pub is_least : (w : List (Option ℤ)) (j : ℕ) → (hit w ≡ Some j) → IsTrue (is_hit w j) × ((i : ℕ) → i < j → is_hit w i ≡ false)
+unfolding hit
+is_least w j e = let r = found (is_hit w) 0 (length w) j e in (r.is, λ i low. r.before i (omega arith) low)
+
+pub least_is : (w : List (Option ℤ)) (j : ℕ) → is_hit w j ≡ true → ((i : ℕ) → i < j → is_hit w i ≡ false) → hit w ≡ Some j
+unfolding hit
+least_is w j is before = let l = hit_inside w j is in find_some (is_hit w) 0 (length w) j (omega arith) (omega arith) is (λ i from to. before i to)
+
+pub none_is : (w : List (Option ℤ)) → hit w ≡ None → (i : ℕ) → is_hit w i ≡ false
+unfolding hit
+none_is w e i = by (cases_lt i (length w))
+  where
+    by : (i < length w) ⊎ (length w ≤ i) → is_hit w i ≡ false
+    by (inl l) = found_none (is_hit w) 0 (length w) e i (omega arith) (omega arith)
+    by (inr g) = past_is_none w i (omega arith)
+
+pub is_none : (w : List (Option ℤ)) → ((i : ℕ) → is_hit w i ≡ false) → hit w ≡ None
+unfolding hit
+is_none w h = find_none (is_hit w) 0 (length w) (λ i from to. h i)
+
+-- ---- the walk of a pixel
+
+pub walk_length : (s : Scene) (u v : ℕ) → length (walk_points s u v) ≡ point_count s.camera
+unfolding walk_points
+walk_length s u v = length-map-range_with_len (point_value s u v) 0 (point_count s.camera)
+
+pub walk_value : (s : Scene) (u v j : ℕ) → j < point_count s.camera → value_at (walk_points s u v) j ≡ point_value s u v j
+unfolding walk_points
+walk_value s u v j h = get_or-map-range_with_len (point_value s u v) 0 (point_count s.camera) j j None h (omega arith)
+
+-- whether there is a hit at point j, by the values there and at the next point
+pub is_hit_at : (s : Scene) (u v j : ℕ) → j + 1 < point_count s.camera → is_hit (walk_points s u v) j ≡ falls (point_value s u v j) (point_value s u v (j + 1))
+is_hit_at s u v j h = λ i. falls (walk_value s u v j (omega arith) i) (walk_value s u v (j + 1) h i)
+
+-- no hit comes before point j
+pub record NoneBefore (s : Scene) (u v j : ℕ) : Type 0 where
+  pub none : (i : ℕ) → i + 1 < j → is_hit (walk_points s u v) i ≡ false
+
+-- none comes before the second point
+pub none_first : (s : Scene) (u v : ℕ) → NoneBefore s u v 1
+none_first s u v = record { none = λ i h. absurd (omega arith) }
+
+-- one more point
+pub none_next : (s : Scene) (u v j : ℕ) → j + 1 < point_count s.camera → NoneBefore s u v (j + 1) → falls (point_value s u v j) (point_value s u v (j + 1)) ≡ false → NoneBefore s u v (j + 1 + 1)
+none_next s u v j h b out = record { none = λ i low. by i low (cases_lt i j) }
+  where
+    by : (i : ℕ) → i + 1 < j + 1 + 1 → (i < j) ⊎ (j ≤ i) → is_hit (walk_points s u v) i ≡ false
+    by i low (inl l) = b.none i (omega arith)
+    by i low (inr g) = (let same : j ≡ i = omega arith in subst (λ k. is_hit (walk_points s u v) k ≡ false) same (is_hit_at s u v j h ∙ out))
+
+-- the sample, where the first hit is at point j
+pub sample_there : (s : Scene) (u v j : ℕ) → j + 1 < point_count s.camera → NoneBefore s u v (j + 1) → falls (point_value s u v j) (point_value s u v (j + 1)) ≡ true
+    → hit_sample s.camera (point_depth s.camera j) (point_value s u v j) (point_value s u v (j + 1)) ≡ sample_of s u v
+sample_there s u v j h b is =
+    let w = walk_points s u v in
+    (λ i. hit_sample s.camera (point_depth s.camera j) (sym (walk_value s u v j (omega arith)) i) (sym (walk_value s u v (j + 1) h) i))
+    ∙ ap (sample_at s.camera w) (sym (least_is w j (is_hit_at s u v j h ∙ is) (λ i low. b.none i (omega arith))))
+
+-- the sample, where there is none
+pub sample_none : (s : Scene) (u v j : ℕ) → point_count s.camera ≤ j → NoneBefore s u v j → 0 ≡ sample_of s u v
+sample_none s u v j h b = ap (sample_at s.camera (walk_points s u v)) (sym (is_none (walk_points s u v) (λ i. by i (cases_lt (i + 1) j))))
+  where
+    by : (i : ℕ) → (i + 1 < j) ⊎ (j ≤ i + 1) → is_hit (walk_points s u v) i ≡ false
+    by i (inl l) = b.none i l
+    by i (inr g) = past_is_none (walk_points s u v) i (let e = walk_length s u v in omega arith)
+
+-- ---- a step of the walk
+
+-- what is known at point j, which follows point i: the values of both, and that no hit comes before
+pub record IsTurn (s : Scene) (u v i j : ℕ) (k : CameraFields) (z : ℤ) (front behind : Option ℤ) (r : Option ℕ) : Type 0 where
+  pub follows : j ≡ i + 1
+  pub inside : j < point_count s.camera
+  pub camera : k ≡ s.camera
+  pub depth : z ≡ point_depth s.camera i
+  pub front_is : front ≡ point_value s u v i
+  pub behind_is : behind ≡ point_value s u v j
+  pub none : NoneBefore s u v j
+  pub result : r ≡ cond (falls front behind) (Some (hit_sample k z front behind)) None
+
+module _ (s : Scene) (u v i j : ℕ) (k : CameraFields) (z : ℤ) (front behind : Option ℤ) (r : Option ℕ) where
+  values : IsTurn s u v i j k z front behind r → falls front behind ≡ falls (point_value s u v i) (point_value s u v (i + 1))
+  values t = λ x. falls (t.front_is x) ((t.behind_is ∙ ap (point_value s u v) t.follows) x)
+
+  -- the sample of a hit
+  pub turn_hit : (sample : ℕ) → IsTurn s u v i j k z front behind r → r ≡ Some sample → sample ≡ sample_of s u v
+  turn_hit x t e = by (falls front behind) refl
+    where
+      none_some : ◌≡◌ {A = Option ℕ} None (Some x) → x ≡ sample_of s u v
+      none_some e = absurd (cc)
+
+      same_some : (y : ℕ) → ◌≡◌ {A = Option ℕ} (Some y) (Some x) → x ≡ y
+      same_some y e = cc
+
+      by : (b : Bool) → falls front behind ≡ b → x ≡ sample_of s u v
+      by false is = none_some (sym (t.result ∙ ap (λ c. cond c (Some (hit_sample k z front behind)) None) is) ∙ e)
+      by true is =
+          same_some (hit_sample k z front behind) (sym (t.result ∙ ap (λ c. cond c (Some (hit_sample k z front behind)) None) is) ∙ e)
+          ∙ (λ y. hit_sample (t.camera y) (t.depth y) (t.front_is y) ((t.behind_is ∙ ap (point_value s u v) t.follows) y))
+          ∙ sample_there s u v i (subst (λ n. n < point_count s.camera) t.follows t.inside) (subst (λ n. NoneBefore s u v n) t.follows t.none) (sym (values t) ∙ is)
+
+  -- where there is none, none comes before the next point
+  pub turn_none : IsTurn s u v i j k z front behind r → r ≡ None → NoneBefore s u v (j + 1)
+  turn_none t e = by (falls front behind) refl
+    where
+      some_none : (y : ℕ) → ◌≡◌ {A = Option ℕ} (Some y) None → NoneBefore s u v (j + 1)
+      some_none y e = absurd (cc)
+
+      by : (b : Bool) → falls front behind ≡ b → NoneBefore s u v (j + 1)
+      by true is = some_none (hit_sample k z front behind) (sym (t.result ∙ ap (λ c. cond c (Some (hit_sample k z front behind)) None) is) ∙ e)
+      by false is =
+          subst (λ n. NoneBefore s u v (n + 1)) (sym t.follows)
+          (none_next s u v i (subst (λ n. n < point_count s.camera) t.follows t.inside) (subst (λ n. NoneBefore s u v n) t.follows t.none) (sym (values t) ∙ is))
+
+-- ---- rows, one after another
+
+range_one_more : (a n j : ℕ) → a + n ≡ j → range_with_len a (suc n) ≡ range_with_len a n ++ j ∷ []
+range_one_more a zero j e = ap (λ i. i ∷ []) (omega arith)
+range_one_more a (suc n) j e = ap (λ is. a ∷ is) (range_one_more (a + 1) n j (omega arith))
+
+pub one_more_row : (f : ℕ → List ℕ) (n : ℕ) → flat_map f (range_with_len 0 (n + 1)) ≡ flat_map f (range_with_len 0 n) ++ f n
+one_more_row f n =
+    let next : n + 1 ≡ suc n = omega arith in
+    ap (λ m. flat_map f (range_with_len 0 m)) next ∙ ap (flat_map f) (range_one_more 0 n n (zero-add n)) ∙ flat_map-append f (range_with_len 0 n) (n ∷ []) ∙ ap (λ xs. flat_map f (range_with_len 0 n) ++ xs) (append-nil (f n))

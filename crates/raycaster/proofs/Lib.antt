@@ -1,0 +1,5 @@
+pub mod BlockLemmas
+pub mod HitLemmas
+pub mod PictureLemmas
+pub mod PointLemmas
+pub mod RowLemmas

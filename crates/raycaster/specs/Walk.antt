@@ -1,0 +1,117 @@
+-- The picture that a camera would take of a map: each pixel shows the first surface on its ray. The choice of the points is this project's own; the surface between two points is found as Curless and Levoy (1996) do.
+use Rattle.std.specs.Prelude.{ℕ, ◌+◌, nat_lt, ℤ, pos, ◌+ℤ◌, ◌-ℤ◌, ◌*ℤ◌, int_le, int_lt, Bool, false, ◌&&◌, if◌then◌else◌, unsigned_abs, min, Option, None, Some, List, length, map, slice_get, slice_index_or}
+use Rattle.std.specs.FinMap.{FinMap, get}
+use Rattle.std.specs.List.{find, flat_map, range_with_len}
+use Rattle.std.specs.Option.{option_and_then}
+use Rattle.fixed_geom.specs.Division.{floor_div}
+use Rattle.fixed_geom.specs.declared.vector.Vec3.{Vec3}
+use Rattle.fixed_geom.specs.Poses.{Pose, world}
+use Rattle.voxel_block.specs.declared.voxel.Voxel.{Voxel}
+use Rattle.voxel_block.specs.Keys.{key_cmp}
+use Rattle.depth_frame.specs.DepthMaps.{DepthMap, depth_map_of}
+use Rattle.camera.specs.declared.camera.CameraFields.{CameraFields}
+use Rattle.camera.specs.Cameras.{ray}
+use Rattle.camera.specs.Grid.{block_of_voxel, index_of_voxel, nearest_voxel}
+
+-- what a picture is of: a map from keys to the 512 voxels of a block, the camera, and the pose that it looks from
+pub record Scene : Type 0 where
+  pub blocks : FinMap key_cmp (List Voxel)
+  pub camera : CameraFields
+  pub pose : Pose
+
+abbrev pub scene_of : CameraFields → Pose → FinMap key_cmp (List Voxel) → Scene
+scene_of k p m = record { blocks = m; camera = k; pose = p }
+
+-- ---- what is known
+
+-- the value of a voxel, its distance, which is known where its weight is above 0
+abbrev pub known_value : Voxel → Option ℤ
+known_value v = if nat_lt 0 v.w then Some v.f else None
+
+-- the known value of the voxel of index i of a block, if there is a block
+abbrev pub value_in : Option (List Voxel) → (i : ℕ) → Option ℤ
+value_in None i = None
+value_in (Some voxels) i = option_and_then known_value (slice_get voxels i)
+
+-- the known value of the voxel with these coordinates in the whole grid; none is known where the map lacks its block
+abbrev pub value_of : FinMap key_cmp (List Voxel) → Vec3 → Option ℤ
+value_of m c = value_in (get m (block_of_voxel c)) (index_of_voxel c)
+
+-- ---- the walk of a pixel
+
+-- the number of points of each walk: their depths are those of near + s j that are at most far, where s is the voxel size
+abbrev pub point_count : CameraFields → ℕ
+point_count k = unsigned_abs (floor_div (k.far -ℤ k.near) k.voxel) + 1
+
+-- the depth of point j
+abbrev pub point_depth : CameraFields → (j : ℕ) → ℤ
+point_depth k j = k.near +ℤ k.voxel *ℤ pos j
+
+-- the coordinates of the voxel nearest to the point at depth z of a pixel's ray
+abbrev pub voxel_at : CameraFields → Pose → (u v : ℕ) → (z : ℤ) → Vec3
+voxel_at k p u v z = nearest_voxel k.voxel (world p (ray k (pos u) (pos v) z))
+
+-- the known value at point j
+abbrev pub point_value : Scene → (u v j : ℕ) → Option ℤ
+point_value s u v j = value_of s.blocks (voxel_at s.camera s.pose u v (point_depth s.camera j))
+
+-- the walk of the pixel in column u and row v: the known value at each of its points, by their depth
+unfoldable pub walk_points : Scene → (u v : ℕ) → List (Option ℤ)
+walk_points s u v = map (point_value s u v) (range_with_len 0 (point_count s.camera))
+
+-- ---- the hit
+
+-- the known value at point j of a walk, nothing past its end
+abbrev pub value_at : List (Option ℤ) → (j : ℕ) → Option ℤ
+value_at w j = slice_index_or w j None
+
+-- whether both values are known, the first one above 0 and the second one at most 0
+abbrev pub falls : (front behind : Option ℤ) → Bool
+falls None behind = false
+falls (Some f) None = false
+falls (Some f) (Some g) = int_lt (pos 0) f && int_le g (pos 0)
+
+-- whether the value falls from above 0 to at most 0 between the points j and j + 1
+abbrev pub is_hit : List (Option ℤ) → (j : ℕ) → Bool
+is_hit w j = falls (value_at w j) (value_at w (j + 1))
+
+-- the first point where it does
+unfoldable pub hit : List (Option ℤ) → Option ℕ
+hit w = find (is_hit w) (range_with_len 0 (length w))
+
+-- ---- the picture
+
+-- the depth of the surface between a point at depth z with the value f and the next one, s behind it, with the value g: where a straight line from f to g is 0
+abbrev pub hit_depth : (s z f g : ℤ) → ℤ
+hit_depth s z f g = z +ℤ floor_div (s *ℤ f) (f -ℤ g)
+
+-- the sample that shows a depth
+abbrev pub sample_of_depth : (unit depth : ℤ) → ℕ
+sample_of_depth unit depth = min 65535 (unsigned_abs (floor_div depth unit))
+
+-- the sample of a hit between a point at depth z and the next one, by their values
+abbrev pub hit_sample : CameraFields → (z : ℤ) → (front behind : Option ℤ) → ℕ
+hit_sample k z None behind = 0
+hit_sample k z (Some f) None = 0
+hit_sample k z (Some f) (Some g) = sample_of_depth k.unit (hit_depth k.voxel z f g)
+
+-- the sample of a walk, by the point of its hit; 0 without a hit
+abbrev pub sample_at : CameraFields → List (Option ℤ) → (hit : Option ℕ) → ℕ
+sample_at k w None = 0
+sample_at k w (Some j) = hit_sample k (point_depth k j) (value_at w j) (value_at w (j + 1))
+
+-- the sample of the pixel in column u and row v
+abbrev pub sample : Scene → (u v : ℕ) → ℕ
+sample s u v = sample_at s.camera (walk_points s u v) (hit (walk_points s u v))
+
+-- the samples of a row of pixels
+unfoldable pub row_samples : Scene → (v : ℕ) → List ℕ
+row_samples s v = map (λ u. sample s u v) (range_with_len 0 (unsigned_abs s.camera.width))
+
+-- the samples of all rows
+abbrev pub all_samples : Scene → List ℕ
+all_samples s = flat_map (row_samples s) (range_with_len 0 (unsigned_abs s.camera.height))
+
+-- the picture
+abbrev pub picture : Scene → DepthMap
+picture s = depth_map_of (unsigned_abs s.camera.width) (unsigned_abs s.camera.height) (all_samples s)

@@ -1,0 +1,62 @@
+ghost use Rattle.std.specs.Prelude.{◌≡◌, ◌<◌, option_map};
+ghost use Rattle.std.specs.FinMap.{contains_key};
+ghost use Rattle.spatial_hash.specs.Contents.{contents};
+ghost use Rattle.streamer.specs.Places.{blocks_of};
+ghost use Rattle.raycaster.specs.Rows.{IsLookedUp};
+ghost use Rattle.raycaster.specs.Walk.{known_value as known_value_of, value_in};
+
+use streamer::Rest;
+use voxel_block::{Block, BlockKey, Voxel};
+
+/// The block that was looked up last. It is remembered where the map lacks it, too.
+#[derive(Clone, Copy)]
+pub(crate) struct LastBlock<'a> {
+    key: BlockKey,
+    block: Option<&'a Block>,
+}
+
+impl<'a> LastBlock<'a> {
+    /// The block of a key.
+    pub(crate) fn of(rest: &'a Rest, key: BlockKey) -> LastBlock<'a>
+        requires { contains_key (contents rest.now.table) key ≡ contains_key (blocks_of rest.now) key }
+        ensures key { result.key ≡ key }
+        ensures looked_up { IsLookedUp rest.now result }
+    {
+        LastBlock {
+            key,
+            block: rest.lend(key),
+        }
+    }
+
+    /// The block of another key. It is looked up only where the key differs.
+    pub(crate) fn next(self, rest: &'a Rest, key: BlockKey) -> LastBlock<'a>
+        requires looked_up { IsLookedUp rest.now self }
+        requires resident { contains_key (contents rest.now.table) key ≡ contains_key (blocks_of rest.now) key }
+        ensures key { result.key ≡ key }
+        ensures looked_up { IsLookedUp rest.now result }
+    {
+        if self.key == key {
+            self
+        } else {
+            LastBlock::of(rest, key)
+        }
+    }
+
+    /// The value of the voxel of this index, if it is known.
+    pub(crate) fn value(&self, i: u16) -> Option<i16>
+        requires { i < 512 }
+        ensures { result ≡ value_in (option_map (λ b. b.now) self.now.block) i }
+    {
+        match self.block {
+            Some(block) => known_value(block.get(i)),
+            None => None,
+        }
+    }
+}
+
+/// The value of a voxel, its distance, if it was observed.
+fn known_value(voxel: Voxel) -> Option<i16>
+    ensures { result ≡ known_value_of voxel }
+{
+    if voxel.w > 0 { Some(voxel.f) } else { None }
+}
