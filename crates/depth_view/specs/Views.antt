@@ -39,11 +39,6 @@ no_depth = neg_ℤ (pos 1073741824)
 abbrev pub listed_depth : CameraFields → (raw : ℕ) → ℤ
 listed_depth k raw = unwrap_or (depth_of k raw) no_depth
 
--- a raw sample shows a depth: its depth is from near to far, which no depth of 0 is
-pub record IsValid (k : CameraFields) (raw : ℕ) : Type 0 where
-  pub near : k.near ≤ℤ (pos raw *ℤ k.unit)
-  pub far : (pos raw *ℤ k.unit) ≤ℤ k.far
-
 -- the depths of a depth map's pixels, row by row
 abbrev pub depth_list : CameraFields → DepthMap → List ℤ
 depth_list k p = map (listed_depth k) p.raw

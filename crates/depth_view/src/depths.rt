@@ -1,11 +1,11 @@
-ghost use Rattle.std.specs.Prelude.{◌≡◌, ◌<◌, ◌≤◌, ◌+◌, ◌*◌, ◌^◌, pos, ◌*ℤ◌, ◌≤ℤ◌, IsTrue, ◌↔◌, IfOk, ℕ, ◌++◌, length, map, slice_index, vec_len, vec_capacity};
+ghost use Rattle.std.specs.Prelude.{◌≡◌, ◌≤◌, ◌+◌, ◌^◌, pos, ◌≤ℤ◌, IfOk, ◌++◌, length, map, slice_index, vec_len, vec_capacity};
 ghost use Rattle.fixed_geom.specs.Vectors.{IsWithin};
 ghost use Rattle.depth_frame.specs.DepthMaps.{DepthMap};
 ghost use Rattle.camera.specs.declared.camera.CameraFields.{CameraFields as Fields};
-ghost use Rattle.camera.specs.Cameras.{HasRanges};
-ghost use Rattle.depth_view.specs.Views.{IsValid, depth_list, listed_depth};
+ghost use Rattle.camera.specs.SampleRanges.{IsRangeOf};
+ghost use Rattle.depth_view.specs.Views.{depth_list, listed_depth};
 
-use camera::{Camera, CameraFields};
+use camera::{Camera, SampleRange};
 use depth_frame::DepthFrame;
 use std::alloc::Global;
 use std::marker::Model;
@@ -48,7 +48,7 @@ impl Depths {
         let samples = frame.samples();
         self.depths.clear();
         self.depths.reserve(samples.len())?;
-        push_depths(&mut self.depths, ValidSamples::of(camera), samples);
+        push_depths(&mut self.depths, camera, samples);
         Ok(())
     }
 
@@ -67,117 +67,32 @@ impl Depths {
 }
 
 /// Appends the depth of each sample.
-fn push_depths(depths: &mut Vec<i32>, valid: ValidSamples, samples: &[u16])
+fn push_depths(depths: &mut Vec<i32>, camera: &Camera, samples: &[u16])
     requires { vec_len depths.old + length samples.now ≤ vec_capacity depths.old }
-    ensures { depths.new.items ≡ depths.old.items ++ map (listed_depth valid.fields) samples.now }
+    ensures { depths.new.items ≡ depths.old.items ++ map (listed_depth camera.now) samples.now }
 {
+    let range = SampleRange::of(camera);
     for i in 0..samples.len() {
-        depths.push_reserved(valid.depth(samples[i]));
+        depths.push_reserved(depth(range, camera, samples[i]));
     }
 }
 
-/// The samples of a camera that are valid, which are those from `least` on, `count` in number.
-#[derive(Clone, Copy)]
-struct ValidSamples {
-    fields: CameraFields,
-    least: u32,
-    count: u32,
-    unit: u32,
-    ghost ranges: { HasRanges fields },
-    ghost unit_is: { pos unit ≡ fields.unit },
-    ghost valid: { (raw : ℕ) → raw < 65536 → (IsValid fields raw ↔ ((least ≤ raw) × (raw < least + count))) },
-    ghost last: { least + count < 2 ^ 31 },
-}
-
-impl ValidSamples {
-    fn of(camera: &Camera) -> ValidSamples
-        ensures { result.fields ≡ camera.now }
-    {
-        let fields = camera.fields();
-        let unit = unsigned(fields.unit);
-        let least = least_valid(unsigned(fields.near), unit);
-        let most = most_valid(unsigned(fields.far), unit);
-        ValidSamples {
-            fields,
-            least,
-            count: count_from(least, most),
-            unit,
-        }
-    }
-
-    /// The depth of a sample, -2^30 where it is not valid.
-    fn depth(self, sample: u16) -> i32
-        ensures { result ≡ listed_depth self.fields sample }
-    {
-        if self.has(sample) {
-            depth(sample, self.unit)
-        } else {
-            NO_DEPTH
-        }
-    }
-
-    /// Whether a sample is valid.
-    fn has(self, sample: u16) -> bool
-        ensures { IsTrue result ↔ IsValid self.fields sample }
-    {
-        is_from(self.least, self.count, sample)
+/// The depth of a sample, -2^30 where the camera does not take it.
+fn depth(range: SampleRange, camera: &Camera, sample: u16) -> i32
+    requires { IsRangeOf camera.now range.unit range.least range.most }
+    ensures { result ≡ listed_depth camera.now sample }
+{
+    match range.depth(sample) {
+        Some(depth) => narrow(depth),
+        None => NO_DEPTH,
     }
 }
 
-/// Whether a sample is one of the `count` ones from `least` on, by one comparison: the offset of a lesser one wraps, and is
-/// above the count.
-fn is_from(least: u32, count: u32, sample: u16) -> bool
-    requires { least + count < 2 ^ 31 }
-    ensures { IsTrue result ↔ ((least ≤ sample) × (sample < least + count)) }
+/// A depth in 32 bits.
+fn narrow(depth: i64) -> i32
+    requires low { pos 1 ≤ℤ depth }
+    requires high { depth ≤ℤ pos 16000000 }
+    ensures { result ≡ depth }
 {
-    u32::from(sample).wrapping_sub(least) < count
-}
-
-/// The depth of a sample in micrometres.
-fn depth(sample: u16, unit: u32) -> i32
-    requires { sample * unit ≤ 16000000 }
-    ensures { result ≡ pos (sample * unit) }
-{
-    (u32::from(sample) * unit) as i32
-}
-
-/// A length of a camera's fields, none of which is below 0.
-fn unsigned(length: i64) -> u32
-    requires least { pos 1 ≤ℤ length }
-    requires most { length ≤ℤ pos 16000000 }
-    ensures value { pos result ≡ length }
-    ensures least { 1 ≤ result }
-    ensures most { result ≤ 16000000 }
-{
-    length as u32
-}
-
-/// The least sample that has at least the depth `near`.
-fn least_valid(near: u32, unit: u32) -> u32
-    requires near { near ≤ 16000000 }
-    requires unit { 1 ≤ unit }
-    requires unit_high { unit ≤ 16000000 }
-    ensures value { (raw : ℕ) → (near ≤ raw * unit) ↔ (result ≤ raw) }
-    ensures bound { result ≤ 16000000 }
-{
-    (near + unit - 1) / unit
-}
-
-/// The greatest sample that has at most the depth `far`.
-fn most_valid(far: u32, unit: u32) -> u32
-    requires unit { 1 ≤ unit }
-    ensures value { (raw : ℕ) → raw < 65536 → (raw * unit ≤ far) ↔ (raw ≤ result) }
-    ensures bound { result ≤ 65535 }
-{
-    (far / unit).min(65535)
-}
-
-/// The number of the numbers from `least` to `most`.
-fn count_from(least: u32, most: u32) -> u32
-    requires least { least ≤ 16000000 }
-    requires most { most ≤ 65535 }
-    ensures value { (raw : ℕ) → (least ≤ raw) → (raw ≤ most) ↔ (raw < least + result) }
-    ensures bound { result ≤ 65536 }
-{
-    if least <= most { most - least + 1 } else { 0 }
+    depth as i32
 }

@@ -9,7 +9,7 @@ use Rattle.depth_view.proofs.depths.push_depths.Goals as goal
 
 pub loop-i-preserved : goal.loop-i-preserved
 loop-i-preserved c =
-    let f = listed_depth c.args.valid.fields in
+    let f = listed_depth c.args.camera.now in
     let one = to_z-of_z w32 c.depth.result (record { sfits = c.depth.type_inv }) ∙ c.depth.ensures in
     let y : ℤ = f (get_or c.args.samples.now c.loop-i.i 0) in
     let before : List ℤ = map f (take c.loop-i.i c.args.samples.now) in (
@@ -22,5 +22,5 @@ loop-i-preserved c =
 pub returns : goal.returns
 returns c =
     let end : c.loop-i.i ≡ length c.args.samples.now = omega (arith, c.loop-i-test.false, c.loop-i.auto.i-end) in
-    c.loop-i.invariant.0 ∙ ap (λ n. c.args.depths.now.items ++ map (listed_depth c.args.valid.fields) (take n c.args.samples.now)) end
-    ∙ ap (λ xs. c.args.depths.now.items ++ map (listed_depth c.args.valid.fields) xs) (take-length c.args.samples.now)
+    c.loop-i.invariant.0 ∙ ap (λ n. c.args.depths.now.items ++ map (listed_depth c.args.camera.now) (take n c.args.samples.now)) end
+    ∙ ap (λ xs. c.args.depths.now.items ++ map (listed_depth c.args.camera.now) xs) (take-length c.args.samples.now)
