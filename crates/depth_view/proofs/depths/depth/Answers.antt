@@ -6,6 +6,9 @@ use Rattle.camera.proofs.Readings.{same64}
 use Rattle.depth_view.specs.Views.{no_depth}
 use Rattle.depth_view.proofs.depths.depth.Goals as goal
 
+pub narrow-requires-clause-low : goal.narrow-requires-clause-low
+narrow-requires-clause-low c = (let near = (c.in-Some.ensures.range c.args.camera.now c.requires).0 in omega (arith, ints, near))
+
 pub narrow-requires-clause-high : goal.narrow-requires-clause-high
 narrow-requires-clause-high c = (let far = c.in-Some.ensures.range c.args.camera.now c.requires in let most = c.requires.ranges.far_high in omega (arith, ints, far.1, most))
 
