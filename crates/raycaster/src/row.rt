@@ -38,7 +38,7 @@ impl<'a> Row<'a> {
         requires inside { pos v <ℤ camera.now.height }
         requires active { HoldsActive camera.now pose.now rest.now }
         ensures row { IsRow result }
-        ensures scene { result.camera.now ≡ camera.now }
+        ensures camera { result.camera.now ≡ camera.now }
         ensures pose { result.pose.now ≡ pose.now }
         ensures rest { result.rest.now ≡ rest.now }
         ensures v { result.v ≡ v }
