@@ -9,7 +9,7 @@ use Rattle.camera.specs.declared.camera.CameraFields.{CameraFields}
 use Rattle.spatial_hash.specs.Contents.{contents}
 use Rattle.streamer.specs.Places.{Places, blocks_of, cell_of, in_heap}
 use Rattle.streamer.proofs.Blocks.{get-resident, has-blocks}
-use Rattle.raycaster.specs.Rows.{HoldsActive}
+use Rattle.raycaster.specs.Resident.{HoldsActive}
 
 gone : {X : Type 0} (o : Option X) → is_some o ≡ false → o ≡ None
 gone None e = refl

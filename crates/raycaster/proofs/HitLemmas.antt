@@ -1,10 +1,9 @@
 -- The hit of a walk.
-use Rattle.std.proofs.Common.{◌≡◌, ℕ, zero, suc, ◌+◌, ◌<◌, ◌≤◌, Bool, true, false, cond, List, [], ◌∷◌, ◌++◌, length, zero-add, refl, sym, ap, ◌∙◌, subst, inl, inr, ◌⊎◌, arith}
+use Rattle.std.proofs.Common.{◌≡◌, ℕ, zero, suc, ◌+◌, ◌<◌, ◌≤◌, Bool, true, false, cond, List, length, refl, sym, ap, ◌∙◌, subst, inl, inr, ◌⊎◌, arith}
 use Rattle.std.specs.Prelude.{ℤ, Option, Some, None, IsTrue}
-use Rattle.std.specs.List.{find, flat_map, range_with_len}
+use Rattle.std.specs.List.{find, range_with_len}
 use Rattle.std.proofs.lemmas.Bool.{cases_lt}
-use Rattle.std.proofs.lemmas.Grind.{flat_map-append}
-use Rattle.std.proofs.lemmas.List.{append-nil, get_or_past}
+use Rattle.std.proofs.lemmas.List.{get_or_past}
 use Rattle.std.proofs.lemmas.List.FromFn.{length-map-range_with_len, get_or-map-range_with_len}
 use Rattle.camera.specs.declared.camera.CameraFields.{CameraFields}
 use Rattle.raycaster.specs.Walk.{Scene, falls, hit, hit_sample, is_hit, point_count, point_depth, point_value, sample as sample_of, sample_at, value_at, walk_points}
@@ -189,14 +188,3 @@ module _ (s : Scene) (u v i j : ℕ) (k : CameraFields) (z : ℤ) (front behind 
       by false is =
           subst (λ n. NoneBefore s u v (n + 1)) (sym t.follows)
           (none_next s u v i (subst (λ n. n < point_count s.camera) t.follows t.inside) (subst (λ n. NoneBefore s u v n) t.follows t.none) (sym (values t) ∙ is))
-
--- ---- rows, one after another
-
-range_one_more : (a n j : ℕ) → a + n ≡ j → range_with_len a (suc n) ≡ range_with_len a n ++ j ∷ []
-range_one_more a zero j e = ap (λ i. i ∷ []) (omega arith)
-range_one_more a (suc n) j e = ap (λ is. a ∷ is) (range_one_more (a + 1) n j (omega arith))
-
-pub one_more_row : (f : ℕ → List ℕ) (n : ℕ) → flat_map f (range_with_len 0 (n + 1)) ≡ flat_map f (range_with_len 0 n) ++ f n
-one_more_row f n =
-    let next : n + 1 ≡ suc n = omega arith in
-    ap (λ m. flat_map f (range_with_len 0 m)) next ∙ ap (flat_map f) (range_one_more 0 n n (zero-add n)) ∙ flat_map-append f (range_with_len 0 n) (n ∷ []) ∙ ap (λ xs. flat_map f (range_with_len 0 n) ++ xs) (append-nil (f n))

@@ -1,9 +1,12 @@
--- Pictures of maps that agree on the active blocks.
-use Rattle.std.proofs.Common.{◌≡◌, ℕ, zero, suc, ◌+◌, ◌<◌, ◌≤◌, List, ◌∷◌, ◌++◌, map, refl, ap, arith}
+-- Pictures: their rows, and those of maps that agree on the active blocks.
+use Rattle.std.proofs.Common.{◌≡◌, ℕ, zero, suc, ◌+◌, ◌<◌, ◌≤◌, List, [], ◌∷◌, ◌++◌, map, refl, sym, ap, ◌∙◌, append-nil, zero-add, arith}
 use Rattle.std.specs.Prelude.{ℤ, pos, ◌≤ℤ◌, ◌<ℤ◌, unsigned_abs}
 use Rattle.std.specs.FinMap.{FinMap}
 use Rattle.std.specs.List.{flat_map, range_with_len}
+use Rattle.std.proofs.lemmas.Grind.{flat_map-append}
 use Rattle.std.proofs.lemmas.Int.{ints}
+use Rattle.std.proofs.lemmas.List.Folds.{flat_map-map}
+use Rattle.std.proofs.lemmas.List.FromFn.{map-range_with_len_more}
 use Rattle.fixed_geom.specs.Poses.{Pose, IsPose}
 use Rattle.voxel_block.specs.declared.voxel.Voxel.{Voxel}
 use Rattle.voxel_block.specs.Keys.{key_cmp}
@@ -24,6 +27,12 @@ map_same f g a (suc n) h = λ x. h a (omega arith) (omega arith) x ∷ map_same 
 flat_map_same : {X : Type 0} (f g : ℕ → List X) (a n : ℕ) → ((i : ℕ) → a ≤ i → i < a + n → f i ≡ g i) → flat_map f (range_with_len a n) ≡ flat_map g (range_with_len a n)
 flat_map_same f g a zero h = refl
 flat_map_same f g a (suc n) h = λ x. h a (omega arith) (omega arith) x ++ flat_map_same f g (a + 1) n (λ i low high. h i (omega arith) (omega arith)) x
+
+-- the lists of one number more
+pub one_more_row : {X : Type 0} (f : ℕ → List X) (n : ℕ) → flat_map f (range_with_len 0 (n + 1)) ≡ flat_map f (range_with_len 0 n) ++ f n
+one_more_row f n =
+    sym (flat_map-map f (λ i. i) (range_with_len 0 (n + 1))) ∙ ap (flat_map f) (map-range_with_len_more (λ i. i) 0 n n (zero-add n)) ∙ flat_map-append f (map (λ i. i) (range_with_len 0 n)) (n ∷ [])
+    ∙ (λ x. flat_map-map f (λ i. i) (range_with_len 0 n) x ++ append-nil (f n) x)
 
 side : (w : ℤ) (u : ℕ) → pos 1 ≤ℤ w → u < unsigned_abs w → pos u <ℤ w
 side w u h low = omega (arith, ints)

@@ -1,3 +1,4 @@
 pub mod Laws
+pub mod Resident
 pub mod Rows
 pub mod Walk

@@ -1,19 +1,11 @@
 -- What the code of a row rests on.
-use Rattle.std.specs.Prelude.{◌≡◌, pos, ◌<ℤ◌, IsTrue, option_map}
-use Rattle.std.specs.FinMap.{contains_key, get}
-use Rattle.fixed_geom.specs.Poses.{Pose}
-use Rattle.voxel_block.specs.declared.key.BlockKey.{BlockKey}
-use Rattle.spatial_hash.specs.Contents.{contents}
-use Rattle.camera.specs.declared.camera.CameraFields.{CameraFields}
-use Rattle.camera.specs.Cameras.{is_active}
+use Rattle.std.specs.Prelude.{◌≡◌, pos, ◌<ℤ◌, option_map}
+use Rattle.std.specs.FinMap.{get}
 use Rattle.streamer.specs.Places.{Places, blocks_of}
 use Rattle.raycaster.specs.declared.last_block.LastBlock.{LastBlock}
 use Rattle.raycaster.specs.declared.row.Row.{Row}
+use Rattle.raycaster.specs.Resident.{HoldsActive}
 use Rattle.raycaster.specs.Walk.{Scene, scene_of}
-
--- each active block of the map is resident: a key of an active block that the hash lacks is not known at all
-pub record HoldsActive (k : CameraFields) (m : Pose) (p : Places) : Type 0 where
-  pub resident : (b : BlockKey) → IsTrue (is_active k m b) → contains_key (contents p.table) b ≡ contains_key (blocks_of p) b
 
 -- a block that was looked up is what the map has at its key
 pub record IsLookedUp (p : Places) (l : LastBlock) : Type 0 where

@@ -1,4 +1,4 @@
--- The picture that a camera would take of a map: each pixel shows the first surface on its ray. The choice of the points is this project's own; the surface between two points is found as Curless and Levoy (1996) do.
+-- The picture that a camera would take of a map: each pixel shows the first surface on its ray. The depth between two points is that of Newcombe and others (2011); the choice of the points and the roundings are this project's own.
 use Rattle.std.specs.Prelude.{ℕ, ◌+◌, nat_lt, ℤ, pos, ◌+ℤ◌, ◌-ℤ◌, ◌*ℤ◌, int_le, int_lt, Bool, false, ◌&&◌, if◌then◌else◌, unsigned_abs, min, Option, None, Some, List, length, map, slice_get, slice_index_or}
 use Rattle.std.specs.FinMap.{FinMap, get}
 use Rattle.std.specs.List.{find, flat_map, range_with_len}

@@ -1,6 +1,6 @@
 ghost use Rattle.std.specs.Prelude.{◌≡◌, ◌*◌, length, pos, ◌<ℤ◌, IfOk, vec_len};
 ghost use Rattle.streamer.specs.Places.{blocks_of};
-ghost use Rattle.raycaster.specs.Rows.{HoldsActive};
+ghost use Rattle.raycaster.specs.Resident.{HoldsActive};
 ghost use Rattle.raycaster.specs.Walk.{all_samples, picture, row_samples, scene_of};
 
 use crate::row::Row;
@@ -14,9 +14,11 @@ use voxel_block::NoMemory;
 /// The picture of a map from a pose: the depth of the first surface on the ray of each pixel, and 0 where there is none.
 ///
 /// The ray is walked from `near` to `far` in steps of one voxel, and each point reads the voxel nearest to it. A surface
-/// lies between two points whose values are known, where the first is above 0 and the second is not. Its depth is
-/// interpolated (Curless and Levoy 1996), divided by `unit` and cut off at 65535. The choice of the points and the
-/// roundings are this project's own.
+/// lies between two points whose values are known, where the first is above 0 and the second is not. Its depth is where a
+/// straight line from value to value is 0 (Newcombe et al. 2011). A sample is this depth divided by `unit`, and at most
+/// 65535. The choice of the points and the roundings are this project's own.
+///
+/// Each active block of the map has to be resident.
 pub fn render(
     alloc: Global,
     camera: &Camera,

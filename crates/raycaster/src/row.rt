@@ -4,7 +4,8 @@ ghost use Rattle.camera.specs.Cameras.{HasRanges};
 ghost use Rattle.camera.specs.Grid.{block_of_voxel, index_of_voxel};
 ghost use Rattle.spatial_hash.specs.Contents.{contents};
 ghost use Rattle.streamer.specs.Places.{blocks_of};
-ghost use Rattle.raycaster.specs.Rows.{HoldsActive, IsLookedUp, IsRow, scene_of_row};
+ghost use Rattle.raycaster.specs.Resident.{HoldsActive};
+ghost use Rattle.raycaster.specs.Rows.{IsLookedUp, IsRow, scene_of_row};
 ghost use Rattle.raycaster.specs.Walk.{point_count as point_count_of, point_depth as point_depth_of, point_value, sample as sample_of, voxel_at};
 
 use crate::last_block::LastBlock;
@@ -37,7 +38,7 @@ impl<'a> Row<'a> {
         requires inside { pos v <ℤ camera.now.height }
         requires active { HoldsActive camera.now pose.now rest.now }
         ensures row { IsRow result }
-        ensures scene { result.camera.now ≡ camera.now }
+        ensures camera { result.camera.now ≡ camera.now }
         ensures pose { result.pose.now ≡ pose.now }
         ensures rest { result.rest.now ≡ rest.now }
         ensures v { result.v ≡ v }

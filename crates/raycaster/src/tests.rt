@@ -83,13 +83,27 @@ fn picture_of(
 // One pixel that looks along the z axis. Point j of its walk is at depth 500000 + 10000 j, and its voxel is (0, 0, 50 + j).
 #[test]
 fn a_pixel_shows_the_first_surface(rt: HostRuntime) -> Result<(), Fail> {
-    let cases: [(&str, CameraFields, [(i16, i16); 4], u16); 20] = [
+    let cases: [(&str, CameraFields, [(i16, i16); 4], u16); 22] = [
         // 990000 + 10000 * 100 / 200.
         (
-            "a wall",
+            "between two voxels",
             BASE,
             [(99, 100), (100, -100), (101, -100), (102, -100)],
             995,
+        ),
+        // What a frame of one wall at 1000000 leaves: 990000 + 10000.
+        (
+            "one wall",
+            BASE,
+            [(98, 16383), (99, 8191), (100, 0), (101, -8192)],
+            1000,
+        ),
+        // What frames of walls at 1000000 and 1010000 leave: 1000000 + 10000 * 4096 / 8192.
+        (
+            "the mean of two walls",
+            BASE,
+            [(99, 12287), (100, 4096), (101, -4096), (102, -12288)],
+            1005,
         ),
         // 990000 + 10000 / 3, which is 993333 and a third.
         (
@@ -275,5 +289,33 @@ fn a_ray_leaves_a_block_and_comes_back(rt: HostRuntime) -> Result<(), Fail> {
     let voxels = [((7, 0, 575), 100), ((8, 0, 576), -100)];
     let picture = picture_of(rt.alloc(), camera, &rows, &voxels)?;
     assert_eq!(rt; picture.samples(), [0, 515].as_slice());
+    Ok(())
+}
+
+// The pixel looks along the z axis, the other way. The voxel nearest to -985000, in the middle of two, is -98.
+#[test]
+fn points_read_the_nearest_voxel(rt: HostRuntime) -> Result<(), Fail> {
+    let one = 1 << 30;
+    let rows = PoseRows {
+        r: [-one, 0, 0, 0, one, 0, 0, 0, -one],
+        t: Vec3 { x: 0, y: 0, z: 0 },
+    };
+    let cases = [
+        // 990000 + 10000 * 100 / 200.
+        ("at a voxel", 500000, [(-99, 100), (-100, -100)], 995),
+        // 985000 + 10000 * 100 / 400.
+        (
+            "in the middle of two",
+            985000,
+            [(-98, 100), (-99, -300)],
+            987,
+        ),
+    ];
+    for (name, near, values, sample) in cases {
+        let camera = CameraFields { near, ..BASE };
+        let voxels = values.map(|(z, f)| ((0, 0, z), f));
+        let picture = picture_of(rt.alloc(), camera, &rows, &voxels)?;
+        assert_eq!(rt; picture.samples(), [sample].as_slice(), "{name}");
+    }
     Ok(())
 }

@@ -1,7 +1,7 @@
 use Rattle.std.proofs.Common.{◌≡◌, ℕ, ◌+◌, ◌*◌, ◌++◌, vec_len, length, sym, ◌∙◌, arith}
 use Rattle.streamer.specs.Places.{blocks_of}
 use Rattle.raycaster.specs.Walk.{row_samples, scene_of}
-use Rattle.raycaster.proofs.HitLemmas.{one_more_row}
+use Rattle.raycaster.proofs.PictureLemmas.{one_more_row}
 use Rattle.raycaster.proofs.picture.render_rows.Goals as goal
 
 next_count : (w v n m l : ℕ) → n ≡ w * v → m ≡ n + l → l ≡ w → m ≡ w * (v + 1)
