@@ -2,6 +2,8 @@
 use Rattle.std.specs.Prelude.{ℕ, ℤ, List, ◌++◌, length, codes}
 use Rattle.std.specs.List.{flat_map}
 use Rattle.std.specs.Fmt.{decimal, signed_decimal}
+use Rattle.depth_frame.specs.DepthMaps.{DepthMap}
+use Rattle.depth_frame.specs.Pgm.{pgm_text}
 use Rattle.scan_lang.specs.declared.reply.FrameDone.{FrameDone}
 use Rattle.scan_lang.specs.declared.reply.KnownVoxel.{KnownVoxel}
 use Rattle.scan_lang.specs.declared.reply.Place.{Place}
@@ -17,6 +19,13 @@ frame_text d = codes "frame " ++ decimal d.frame ++ codes " blocks " ++ decimal 
 -- the greatest number of active blocks, which the frame would exceed
 abbrev pub heap_text : (limit : ℕ) → List ℕ
 heap_text limit = codes "frame refused heap " ++ decimal limit ++ codes "\n"
+
+abbrev pub picture_head : (frames : ℕ) → List ℕ
+picture_head n = codes "render " ++ decimal n ++ codes "\n"
+
+-- the number of frames, and then the file of the picture
+abbrev pub picture_text : (frames : ℕ) → DepthMap → List ℕ
+picture_text n picture = picture_head n ++ pgm_text picture
 
 -- the coordinates of a voxel, its distance and its weight
 abbrev pub voxel_line : KnownVoxel → List ℕ
@@ -54,6 +63,8 @@ text_of replies.Size = codes "frame refused size\n"
 text_of replies.PoseRange = codes "frame refused pose range\n"
 text_of replies.PoseRotation = codes "frame refused pose rotation\n"
 text_of (replies.HeapSpent limit) = heap_text limit
+text_of (replies.Picture frames picture) = picture_text frames picture
+text_of replies.NoFrame = codes "render refused no frame\n"
 text_of (replies.Voxels blocks known) = voxels_text blocks known
 text_of (replies.Totals totals) = totals_text totals
 text_of (replies.Place place) = place_text place

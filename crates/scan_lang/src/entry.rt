@@ -9,6 +9,8 @@ use voxel_block::BlockKey;
 pub enum Entry {
     /// The first three rows of a camera-to-world matrix, and the depth map that was taken there.
     Frame(PoseRows, DepthFrame),
+    /// A request for a picture of the map from the last accepted frame's pose.
+    Render,
     /// A request for all known voxels.
     Voxels,
     /// A request for totals over the map.

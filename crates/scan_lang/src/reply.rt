@@ -1,7 +1,8 @@
 ghost use Rattle.std.specs.Prelude.{◌≡◌, ◌++◌, ◌∷◌, [], IfOk, OnOk};
 ghost use Rattle.std.specs.Fmt.{signed_decimal};
-ghost use Rattle.scan_lang.specs.Replies.{text_of, frame_text, heap_text, place_text, counts_text, sums_text, totals_text, voxels_text, voxels_head as voxels_head_of, voxel_line};
+ghost use Rattle.scan_lang.specs.Replies.{text_of, frame_text, heap_text, picture_text, picture_head as picture_head_of, place_text, counts_text, sums_text, totals_text, voxels_text, voxels_head as voxels_head_of, voxel_line};
 
+use depth_frame::{DepthFrame, pgm_bytes};
 use itoa::Buffer;
 use std::alloc::{AllocError, Global};
 use std::marker::Model;
@@ -97,6 +98,10 @@ pub enum Reply {
     PoseRotation,
     /// A frame was refused: more than this number of blocks would be active.
     HeapSpent(u32),
+    /// The number of accepted frames, and the picture of the map from the last one's pose.
+    Picture(u64, DepthFrame),
+    /// There is no picture: no frame was accepted yet.
+    NoFrame,
     /// The number of blocks, and all known voxels.
     Voxels(u64, VoxelList),
     /// Totals over the map.
@@ -126,6 +131,8 @@ fn written(alloc: Global, reply: &Reply) -> Result<Vec<u8>, AllocError>
         Reply::PoseRange => b"frame refused pose range\n".to_vec(alloc),
         Reply::PoseRotation => b"frame refused pose rotation\n".to_vec(alloc),
         Reply::HeapSpent(limit) => heap_bytes(alloc, *limit),
+        Reply::Picture(frames, picture) => picture_bytes(alloc, *frames, picture),
+        Reply::NoFrame => b"render refused no frame\n".to_vec(alloc),
         Reply::Voxels(blocks, known) => voxels_bytes(alloc, *blocks, known.items()),
         Reply::Totals(totals) => totals_bytes(alloc, totals),
         Reply::Place(place) => place_bytes(alloc, *place),
@@ -145,6 +152,28 @@ fn heap_bytes(alloc: Global, limit: u32) -> Result<Vec<u8>, AllocError>
     ensures { IfOk result (λ v. v.items ≡ heap_text limit) }
 {
     let text = format!(in alloc; "frame refused heap {limit}\n")?;
+    Ok(text.into_bytes())
+}
+
+fn picture_bytes(
+    alloc: Global,
+    frames: u64,
+    picture: &DepthFrame,
+) -> Result<Vec<u8>, AllocError>
+    ensures { IfOk result (λ v. v.items ≡ picture_text frames picture.now) }
+{
+    let mut bytes = picture_head(alloc, frames)?;
+    match pgm_bytes(alloc, picture) {
+        Ok(file) => bytes.extend_from_slice(&file)?,
+        Err(_) => return Err(AllocError),
+    }
+    Ok(bytes)
+}
+
+fn picture_head(alloc: Global, frames: u64) -> Result<Vec<u8>, AllocError>
+    ensures { IfOk result (λ v. v.items ≡ picture_head_of frames) }
+{
+    let text = format!(in alloc; "render {frames}\n")?;
     Ok(text.into_bytes())
 }
 

@@ -70,6 +70,9 @@ fn read_record(offset: u64, line: &[u8], word: Span) -> Result<Head, BadScan>
 fn one_word(word: &[u8]) -> Option<Entry>
     ensures { result ≡ record_of word.now }
 {
+    if word == b"render".as_slice() {
+        return Some(Entry::Render);
+    }
     if word == b"voxels".as_slice() {
         return Some(Entry::Voxels);
     }

@@ -20,6 +20,7 @@ use Rattle.fusion_core.specs.declared.refusal.Refusal.TheVariants.{Size, BadPose
 use Rattle.fusion_core.specs.Frames.{Frame}
 use Rattle.fusion_core.specs.Maps.{BlockMap, active_count}
 use Rattle.fusion_core.specs.Fold.{State, judged, fused, after_frame}
+use Rattle.raycaster.specs.Walk.{picture, scene_of}
 use Rattle.scan_lang.specs.Config.{Config}
 use Rattle.scan_lang.specs.declared.entry.Entry.{Entry}
 use Rattle.scan_lang.specs.declared.entry.Entry.TheVariants as entry
@@ -102,11 +103,27 @@ place_in c s b =
     if contains_key s.blocks b then (if is_active_last c.camera s.last b then places.Heap else places.Store)
     else places.Nowhere
 
+-- ---- pictures
+
+-- the picture of the map from the last frame's pose; there is none where there is no last frame
+abbrev pub picture_from : Config → Option Pose → BlockMap → Option DepthMap
+picture_from c None m = None
+picture_from c (Some pose) m = Some (picture (scene_of c.camera pose m))
+
+abbrev pub picture_at : Config → State → Option DepthMap
+picture_at c s = picture_from c s.last s.blocks
+
+-- the reply, by the number of frames
+abbrev pub picture_reply : (frames : ℕ) → Option DepthMap → Reply
+picture_reply n None = replies.NoFrame
+picture_reply n (Some image) = replies.Picture n image
+
 -- ---- entries
 
 -- the state after an entry
 abbrev pub after : Config → State → Entry → State
 after c s (entry.Frame rows depths) = after_frame s (judged (settings_of c) s rows depths)
+after c s entry.Render = s
 after c s entry.Voxels = s
 after c s entry.Sum = s
 after c s (entry.Place b) = s
@@ -115,6 +132,7 @@ after c s entry.End = s
 -- the reply to an entry at a state
 abbrev pub reply_to : Config → State → Entry → Reply
 reply_to c s (entry.Frame rows depths) = frame_reply (frame_answer c s rows depths)
+reply_to c s entry.Render = picture_reply s.frames (picture_at c s)
 reply_to c s entry.Voxels = replies.Voxels (len s.blocks) (known_voxels s.blocks)
 reply_to c s entry.Sum = replies.Totals (totals_of s.blocks)
 reply_to c s (entry.Place b) = replies.Place (place_in c s b)

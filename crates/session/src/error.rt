@@ -2,6 +2,7 @@ ghost use Rattle.std.specs.Prelude.{◌≡◌, IfSome, IfNone};
 ghost use Rattle.scan_io.specs.Reading.{refused, no_memory as out_of_memory};
 ghost use Rattle.session.specs.declared.error.FrameError.TheVariants.{NoMemory as no_memory};
 ghost use Rattle.session.specs.declared.error.ReadError.TheVariants.{NoMemory as not_read};
+ghost use Rattle.session.specs.declared.error.RenderError.TheVariants.{NoMemory as not_rendered};
 ghost use Rattle.session.specs.Answers.{frame_cause, frame_error};
 
 use fixed_geom::BadPose;
@@ -101,5 +102,31 @@ impl From<AllocError> for ReadError {
 
     fn from(_: AllocError) -> Self {
         ReadError::NoMemory
+    }
+}
+
+/// Why there is no picture.
+#[derive(Clone, Copy, Debug, PartialEq, Eq)]
+pub enum RenderError {
+    /// No frame was accepted yet.
+    NoFrame,
+    /// Out of memory.
+    NoMemory,
+}
+
+impl fmt::Display for RenderError {
+    fn fmt<W: fmt::Write>(&self, f: &mut fmt::Formatter<W>) -> fmt::Result {
+        match self {
+            RenderError::NoFrame => write!(f, "no frame was accepted"),
+            RenderError::NoMemory => write!(f, "out of memory"),
+        }
+    }
+}
+
+impl From<NoMemory> for RenderError {
+    ghost from_gives = { λ _ e. e ≡ not_rendered };
+
+    fn from(_: NoMemory) -> Self {
+        RenderError::NoMemory
     }
 }

@@ -1,5 +1,5 @@
 //! The calls of a session, over its parts.
-ghost use Rattle.std.specs.Prelude.{◌≡◌, ◌≢◌, ◌≤◌, ◌+◌, ◌*◌, Err, IfOk, OnErr, OnOk, true, false};
+ghost use Rattle.std.specs.Prelude.{◌≡◌, ◌≢◌, ◌↔◌, ◌≤◌, ◌+◌, ◌*◌, Err, Some, None, IfOk, OnErr, OnOk, true, false};
 ghost use Rattle.std.specs.FinMap.{empty, len};
 ghost use Rattle.std.specs.FinSet.{empty as no_chunks};
 ghost use Rattle.fixed_geom.specs.PoseTest.{accepted, pose_of};
@@ -9,11 +9,11 @@ ghost use Rattle.scan_io.specs.Reading.{UnlessOutOfMemory};
 ghost use Rattle.fusion_core.specs.Fold.{start as first_state, has_size};
 ghost use Rattle.scan_lang.specs.declared.entry.Entry.TheVariants as entries;
 ghost use Rattle.session.specs.Answers.{frame_cause, session_of, state_of};
-ghost use Rattle.session.specs.Fold.{after, frame_answer, known_voxels as known_voxels_of, place_in, settings_of, totals_of};
+ghost use Rattle.session.specs.Fold.{after, frame_answer, known_voxels as known_voxels_of, picture_at, place_in, settings_of, totals_of};
 ghost use Rattle.session.specs.Rooms.{StaysPut};
 ghost use Rattle.session.specs.Standing.{IsScratchOf, IsSettled, Stands};
 
-use crate::error::{FrameError, ReadError};
+use crate::error::{FrameError, ReadError, RenderError};
 use crate::fusing::fuse;
 use crate::known::known_voxels;
 use crate::room::make_room;
@@ -22,6 +22,7 @@ use crate::totals::totals;
 use depth_frame::DepthFrame;
 use fixed_geom::{BadPose, Pose, PoseRows};
 use fusion_core::{Frame, Settings};
+use raycaster::render;
 use scan_lang::{Config, FrameDone, KnownVoxel, Place, Totals};
 use std::alloc::Global;
 use streamer::Rest;
@@ -33,6 +34,15 @@ pub struct FusedMap {
     pub rest: Rest,
     pub frames: u64,
     pub last: Option<Pose>,
+}
+
+/// A picture of the map, from the pose of the last accepted frame.
+#[derive(Drop)]
+pub struct Picture {
+    /// The number of accepted frames; it saturates at `u64::MAX`.
+    pub frame: u64,
+    /// The picture, whose sides are those of the configuration.
+    pub image: DepthFrame,
 }
 
 /// The empty map, before the first frame, and what its frames work with.
@@ -104,6 +114,30 @@ pub fn read_voxels(
 {
     let known = known_voxels(alloc, &map.rest)?;
     Ok((map.rest.len(), known))
+}
+
+/// The picture from the pose of the last accepted frame.
+pub fn read_picture(
+    alloc: Global,
+    config: &Config,
+    map: &FusedMap,
+) -> Result<Picture, RenderError>
+    requires { IsSettled (session_of config.now map.now) }
+    ensures frame { IfOk result (λ p. p.frame ≡ map.now.frames) }
+    ensures image { IfOk result (λ p. picture_at config.now (state_of (session_of config.now map.now)) ≡ Some p.image) }
+    ensures first { (result ≡ Err RenderError.NoFrame) ↔ (map.now.last ≡ None) }
+    ensures stands { Stands (session_of config.now map.now) }
+{
+    match &map.last {
+        Some(pose) => {
+            let image = render(alloc, config.camera(), pose, &map.rest)?;
+            Ok(Picture {
+                frame: map.frames,
+                image,
+            })
+        }
+        None => Err(RenderError::NoFrame),
+    }
 }
 
 /// Totals over the map. Takes no memory.

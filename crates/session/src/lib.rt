@@ -13,7 +13,8 @@ mod totals;
 mod touching;
 mod updating;
 
-pub use error::{FrameError, ReadError};
+pub use error::{FrameError, ReadError, RenderError};
+pub use fused_map::Picture;
 pub use session::Session;
 
 #[cfg(test)]

@@ -1,4 +1,4 @@
-ghost use Rattle.std.specs.Prelude.{◌≡◌, ◌≢◌, ◌+◌, ◌*◌, Err, IfOk, IsOk, OnErr, OnOk, true, false};
+ghost use Rattle.std.specs.Prelude.{◌≡◌, ◌≢◌, ◌↔◌, ◌+◌, ◌*◌, Err, Some, None, IfOk, IsOk, OnErr, OnOk, true, false};
 ghost use Rattle.std.specs.FinMap.{empty, len};
 ghost use Rattle.std.specs.FinSet.{empty as no_chunks};
 ghost use Rattle.fixed_geom.specs.PoseTest.{accepted, pose_of};
@@ -8,12 +8,12 @@ ghost use Rattle.scan_io.specs.Reading.{UnlessOutOfMemory};
 ghost use Rattle.fusion_core.specs.Fold.{start as first_state, has_size};
 ghost use Rattle.scan_lang.specs.declared.entry.Entry.TheVariants as entries;
 ghost use Rattle.session.specs.Answers.{frame_cause, state_of};
-ghost use Rattle.session.specs.Fold.{after, frame_answer, known_voxels as known_voxels_of, place_in, totals_of};
+ghost use Rattle.session.specs.Fold.{after, frame_answer, known_voxels as known_voxels_of, picture_at, place_in, totals_of};
 ghost use Rattle.session.specs.Rooms.{StaysPut};
 ghost use Rattle.session.specs.Standing.{Stands};
 
-use crate::error::{FrameError, ReadError};
-use crate::fused_map::{FusedMap, find_place, first_map, fuse_frame, read_totals, read_voxels};
+use crate::error::{FrameError, ReadError, RenderError};
+use crate::fused_map::{FusedMap, Picture, find_place, first_map, fuse_frame, read_picture, read_totals, read_voxels};
 use crate::scratch::Scratch;
 use depth_frame::DepthFrame;
 use fixed_geom::{BadPose, PoseRows};
@@ -92,6 +92,18 @@ impl Session {
             rows,
             depths,
         )
+    }
+
+    /// The picture that the camera would take of the map from the pose of the last accepted frame: of each pixel the
+    /// depth of the first surface on its ray, in raw samples of the configuration's unit, and 0 where there is none.
+    pub fn render(&self, alloc: Global) -> Result<Picture, RenderError>
+        ensures frame { IfOk result (λ p. p.frame ≡ self.now.frames) }
+        ensures image { IfOk result (λ p. picture_at self.now.config (state_of self.now) ≡ Some p.image) }
+        ensures no_frame { (result ≡ Err RenderError.NoFrame) ↔ (self.now.frames ≡ 0) }
+        ensures first { (result ≡ Err RenderError.NoFrame) ↔ (self.now.last ≡ None) }
+        ensures stands { Stands self.now }
+    {
+        read_picture(alloc, &self.config, &self.map)
     }
 
     /// The number of blocks, and all known voxels in the order of keys and indices.
