@@ -28,8 +28,8 @@ same_found n p e = cc
 pub none_found : (n : BlockKey × ℕ) → ◌≡◌ {A = Option (BlockKey × ℕ)} None (Some n) → ⊥
 none_found n e = absurd (cc)
 
--- the point of a ray, as the code finds it: by the fields that are given out, by the fields of the rays, and by a depth that is read
-pub ray_found : (k fields rays : CameraFields) (m : Pose) (u v j : ℕ) (z : ℤ) (c p : Vec3) → SFits w64 z → fields ≡ k → rays ≡ k → z ≡ point_depth fields j → c ≡ ray rays (pos u) (pos v) (read z) → p ≡ world m c → p ≡ world m (ray k (pos u) (pos v) (point_depth k j))
-ray_found k fields rays m u v j z c p fits f r deep at is =
+-- the point of a ray, as the code finds it: by the fields that are given out, and by a depth that is read
+pub ray_found : (k fields : CameraFields) (m : Pose) (u v j : ℕ) (z : ℤ) (c p : Vec3) → SFits w64 z → fields ≡ k → z ≡ point_depth fields j → c ≡ ray k (pos u) (pos v) (read z) → p ≡ world m c → p ≡ world m (ray k (pos u) (pos v) (point_depth k j))
+ray_found k fields m u v j z c p fits f deep at is =
     let depth : read z ≡ point_depth k j = to_z-of_z w64 z fits ∙ deep ∙ ap (λ (q : CameraFields). point_depth q j) f in
-    is ∙ ap (world m) (at ∙ (λ i. ray (r i) (pos u) (pos v) (depth i)))
+    is ∙ ap (world m) (at ∙ ap (ray k (pos u) (pos v)) depth)

@@ -15,8 +15,7 @@ pub record IsLookedUp (p : Places) (l : LastBlock) : Type 0 where
 abbrev pub scene_of_row : Row → Scene
 scene_of_row r = scene_of r.camera.now r.pose.now (blocks_of r.rest.now)
 
--- the row is one of the image's, the rays are the camera's, and each active block is resident
+-- the row is one of the image's, and each active block is resident
 pub record IsRow (r : Row) : Type 0 where
   pub inside : pos r.v <ℤ r.camera.now.height
-  pub rays : r.rays.fields ≡ r.camera.now
   pub active : HoldsActive r.camera.now r.pose.now r.rest.now

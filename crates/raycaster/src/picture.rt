@@ -67,7 +67,14 @@ pub fn render_row(camera: &Camera, pose: &Pose, rest: &Rest, v: u32, out: &mut [
     ensures { out.new ≡ row_samples (scene_of camera.now pose.now (blocks_of rest.now)) v }
 {
     let row = Row::of(camera, pose, rest, v);
-    for u in 0..out.len() {
-        out[u] = row.sample(u as u32);
+    for u in 0..column_count(camera) {
+        out[u as usize] = row.sample(u);
     }
+}
+
+/// The number of pixels of a row.
+fn column_count(camera: &Camera) -> u32
+    ensures { pos result ≡ camera.now.width }
+{
+    camera.fields().width as u32
 }

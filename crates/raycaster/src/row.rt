@@ -11,19 +11,18 @@ ghost use Rattle.raycaster.specs.Walk.{point_count as point_count_of, point_dept
 use crate::last_block::LastBlock;
 use crate::points::{point_count, point_depth};
 use crate::surface::hit_sample;
-use camera::{Camera, PixelRays};
+use camera::Camera;
 use fixed_geom::Pose;
 use streamer::Rest;
 use voxel_block::BlockKey;
 
-/// Row `v` of a picture's pixels, with their rays.
+/// Row `v` of a picture's pixels.
 #[derive(Clone, Copy)]
 pub(crate) struct Row<'a> {
     camera: &'a Camera,
     pose: &'a Pose,
     rest: &'a Rest,
     v: u32,
-    rays: PixelRays,
 }
 
 /// The known value at a point of a walk, and the block that it was read in.
@@ -48,7 +47,6 @@ impl<'a> Row<'a> {
             pose,
             rest,
             v,
-            rays: PixelRays::of(camera),
         }
     }
 
@@ -114,7 +112,7 @@ impl<'a> Row<'a> {
         ensures resident { contains_key (contents self.now.rest.now.table) result.0 ≡ contains_key (blocks_of self.now.rest.now) result.0 }
     {
         let z = point_depth(&self.camera.fields(), j);
-        let point = self.pose.near_world(self.rays.point(u, self.v, z));
+        let point = self.pose.near_world(self.camera.ray(u, self.v, z));
         match self.camera.nearest(point) {
             Some(voxel) => voxel,
             None => unreachable!(),

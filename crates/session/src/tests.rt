@@ -27,11 +27,21 @@ fn session(alloc: Global, heap_blocks: u32) -> Option<Session> {
     Session::start(alloc, config).ok()
 }
 
-// The answer to a row of pixels that all show one sample, taken from `x` on the first axis.
+// A row of pixels that all show one sample: the rotation of its pose, its place on the first axis, its width, and the sample.
+type Shot = ([i64; 9], i64, u32, u16);
+
+const WALL: Shot = (AHEAD, 0, 1, 1000);
+
+// A frame without valid depths, which tells nothing but its pose.
+const NOTHING: Shot = (AHEAD, 0, 1, 0);
+
+const NOTHING_FAR_AWAY: Shot = (AHEAD, 50_000_000, 1, 0);
+
+// The answer to a row of pixels.
 fn fuse(
     alloc: Global,
     session: &mut Session,
-    (r, x, width, sample): ([i64; 9], i64, u32, u16),
+    (r, x, width, sample): Shot,
 ) -> Option<Result<FrameDone, FrameError>> {
     let raw = vec![in alloc; sample; width as usize].ok()?;
     let t = Vec3 { x, y: 0, z: 0 };
@@ -69,7 +79,6 @@ fn done(frame: u64, blocks: u64, resident: u32) -> Result<FrameDone, FrameError>
 #[test]
 fn frames_are_fused_or_refused(rt: HostRuntime) {
     let alloc = rt.alloc();
-    let wall = (AHEAD, 0, 1, 1000);
     let fused = done(1, 2, 2);
     let once = (2, 576, 576, -192);
     for (name, heap_blocks, first, second, answer, sums) in [
@@ -77,7 +86,7 @@ fn frames_are_fused_or_refused(rt: HostRuntime) {
             "the same wall",
             64,
             fused,
-            wall,
+            WALL,
             done(2, 2, 2),
             (2, 576, 1152, -192),
         ),
@@ -101,7 +110,7 @@ fn frames_are_fused_or_refused(rt: HostRuntime) {
             "no room",
             1,
             Err(FrameError::HeapSpent { limit: 1 }),
-            wall,
+            WALL,
             Err(FrameError::HeapSpent { limit: 1 }),
             (0, 0, 0, 0),
         ),
@@ -148,7 +157,7 @@ fn frames_are_fused_or_refused(rt: HostRuntime) {
         assert!(rt; session.is_some());
         if let Some(mut session) = session {
             let (blocks, known, weight, distance) = sums;
-            assert_eq!(rt; fuse(alloc, &mut session, wall), Some(first));
+            assert_eq!(rt; fuse(alloc, &mut session, WALL), Some(first));
             assert_eq!(rt; fuse(alloc, &mut session, second), Some(answer), "{}", name);
             assert_eq!(rt;
                 session.totals(),
@@ -208,6 +217,58 @@ fn blocks_leave_the_heap_and_come_back(rt: HostRuntime) {
     }
 }
 
+// The number of accepted frames, and the sides and samples of the picture.
+fn picture(
+    alloc: Global,
+    session: &Session,
+) -> Result<(u64, (u32, u32), Option<u16>), RenderError> {
+    let Picture { frame, image } = session.render(alloc)?;
+    let sides = (image.width(), image.height());
+    Ok((frame, sides, image.samples().first().copied()))
+}
+
+// The distances of the wall along the axis, from the voxel at 97 cm on, are 24575, 16383, 8191, 0 and -8192. After a wall 1 cm
+// behind it the means are 28671, 20479, 12287, 4096 and -4096.
+#[test]
+fn a_picture_is_taken_from_the_last_accepted_pose(rt: HostRuntime) {
+    let alloc = rt.alloc();
+    let none = Err(RenderError::NoFrame);
+    let cases: [(&str, u32, &[Shot], Result<(u64, u16), RenderError>); 9] = [
+        ("before the first frame", 64, &[], none),
+        ("after a frame too wide", 64, &[(AHEAD, 0, 2, 1000)], none),
+        ("after no rotation", 64, &[(MIRRORED, 0, 1, 1000)], none),
+        ("after a frame without room", 1, &[WALL], none),
+        // 990000 + 10000 * 8191 / 8191.
+        ("the wall", 64, &[WALL], Ok((1, 1000))),
+        // 1000000 + 10000 * 4096 / 8192.
+        ("both walls", 64, &[WALL, (AHEAD, 0, 1, 1010)], Ok((2, 1005))),
+        (
+            "after a refused frame",
+            64,
+            &[WALL, (MIRRORED, 0, 1, 1010)],
+            Ok((1, 1000)),
+        ),
+        ("from far away", 2, &[WALL, NOTHING_FAR_AWAY], Ok((2, 0))),
+        (
+            "back from far away",
+            2,
+            &[WALL, NOTHING_FAR_AWAY, NOTHING],
+            Ok((3, 1000)),
+        ),
+    ];
+    for (name, heap_blocks, shots, answer) in cases {
+        let session = session(alloc, heap_blocks);
+        assert!(rt; session.is_some());
+        if let Some(mut session) = session {
+            for shot in shots {
+                assert!(rt; fuse(alloc, &mut session, *shot).is_some());
+            }
+            let wanted = answer.map(|(frame, sample)| (frame, (1, 1), Some(sample)));
+            assert_eq!(rt; picture(alloc, &session), wanted, "{}", name);
+        }
+    }
+}
+
 // The same wall 300 times: each known voxel has the greatest weight.
 #[test]
 fn weights_stop_at_the_greatest(rt: HostRuntime) {
@@ -216,7 +277,7 @@ fn weights_stop_at_the_greatest(rt: HostRuntime) {
     assert!(rt; session.is_some());
     if let Some(mut session) = session {
         for frame in 1..=300 {
-            let fused = fuse(alloc, &mut session, (AHEAD, 0, 1, 1000));
+            let fused = fuse(alloc, &mut session, WALL);
             assert_eq!(rt; fused, Some(done(frame, 2, 2)));
         }
         assert_eq!(rt;

@@ -14,8 +14,8 @@ use Rattle.raycaster.proofs.row.Row.voxel.Goals as goal
 deep : (c : goal.After-point_depth-z) → read c.point_depth-z.result ≡ point_depth c.args.self.now.camera.now c.args.j
 deep c = to_z-of_z w64 c.point_depth-z.result (record { sfits = c.point_depth-z.type_inv }) ∙ c.point_depth-z.ensures.value ∙ ap (λ (k : CameraFields). point_depth k c.args.j) c.fields.ensures.value
 
-pub point-requires-clause-front : goal.point-requires-clause-front
-point-requires-clause-front c = subst (λ (z : ℤ). pos 1 ≤ℤ z) (sym (deep c)) (depth_front c.args.self.now.camera.now c.args.j c.fields.ensures.camera.ranges)
+pub ray-requires-clause-front : goal.ray-requires-clause-front
+ray-requires-clause-front c = subst (λ (z : ℤ). pos 1 ≤ℤ z) (sym (deep c)) (depth_front c.args.self.now.camera.now c.args.j c.fields.ensures.camera.ranges)
 
 -- the voxel that is read
 abbrev voxel_of : (c : goal.In-Some) → BlockKey × ℕ
@@ -26,7 +26,7 @@ voxel_of c =
 found : (c : goal.In-Some) → c.in-Some.voxel ≡ voxel_of c
 found c =
     let a = c.args.self.now in
-    let at = ray_found a.camera.now c.fields.result a.rays.fields a.pose.now c.args.u a.v c.args.j c.point_depth-z.result c.point.result c.near_world-point.result (record { sfits = c.point_depth-z.type_inv }) c.fields.ensures.value c.requires.row.rays c.point_depth-z.ensures.value c.point.ensures.value c.near_world-point.ensures.value in
+    let at = ray_found a.camera.now c.fields.result a.pose.now c.args.u a.v c.args.j c.point_depth-z.result c.ray.result c.near_world-point.result (record { sfits = c.point_depth-z.type_inv }) c.fields.ensures.value c.point_depth-z.ensures.value c.ray.ensures.value c.near_world-point.ensures.value in
     let there : c.nearest.result ≡ Some (voxel_of c) =
     nearest_found a.camera.now a.pose.now c.args.u a.v c.args.j c.near_world-point.result c.nearest.result c.fields.ensures.camera c.near_world-point.ensures.pose c.requires.column c.requires.row.inside c.requires.point at c.nearest.ensures.value in
     same_found c.in-Some.voxel (voxel_of c) (sym c.in-Some.is ∙ there)
@@ -34,7 +34,7 @@ found c =
 pub unreachable-requires : goal.unreachable-requires
 unreachable-requires c =
     let a = c.args.self.now in
-    let at = ray_found a.camera.now c.fields.result a.rays.fields a.pose.now c.args.u a.v c.args.j c.point_depth-z.result c.point.result c.near_world-point.result (record { sfits = c.point_depth-z.type_inv }) c.fields.ensures.value c.requires.row.rays c.point_depth-z.ensures.value c.point.ensures.value c.near_world-point.ensures.value in
+    let at = ray_found a.camera.now c.fields.result a.pose.now c.args.u a.v c.args.j c.point_depth-z.result c.ray.result c.near_world-point.result (record { sfits = c.point_depth-z.type_inv }) c.fields.ensures.value c.point_depth-z.ensures.value c.ray.ensures.value c.near_world-point.ensures.value in
     none_found _ (sym c.in-None.is ∙ nearest_found a.camera.now a.pose.now c.args.u a.v c.args.j c.near_world-point.result c.nearest.result c.fields.ensures.camera c.near_world-point.ensures.pose c.requires.column c.requires.row.inside c.requires.point at c.nearest.ensures.value)
 
 pub returns-clause-key : goal.returns-clause-key
