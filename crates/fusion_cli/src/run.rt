@@ -14,7 +14,7 @@ use fixed_geom::{BadPose, PoseRows};
 use fusion_core::Refusal;
 use scan_io::{Sink, Source, put_all};
 use scan_lang::{BadScan, Entry, Reply, ScanError, ScanReader, VoxelList, reply_bytes};
-use session::{ReadError, Session};
+use session::{ReadError, RenderError, Session};
 use std::alloc::Global;
 use voxel_block::NoMemory;
 
@@ -144,6 +144,7 @@ fn act(alloc: Global, session: &mut Session, entry: Entry) -> Result<Reply, Stop
 {
     match entry {
         Entry::Frame(rows, depths) => fuse(alloc, session, &rows, depths),
+        Entry::Render => render(alloc, session),
         Entry::Voxels => {
             let (blocks, known) = session.voxels(alloc)?;
             Ok(Reply::Voxels(blocks, VoxelList::make(known)))
@@ -151,6 +152,18 @@ fn act(alloc: Global, session: &mut Session, entry: Entry) -> Result<Reply, Stop
         Entry::Sum => Ok(Reply::Totals(session.totals()?)),
         Entry::Place(key) => Ok(Reply::Place(session.place_of(key))),
         Entry::End => Ok(Reply::End),
+    }
+}
+
+/// Renders the map, and gives the reply to a request for a picture.
+fn render(alloc: Global, session: &Session) -> Result<Reply, Stop>
+    ensures reply { IfOk result (λ r. r ≡ reply_to session.now.config (state_of session.now) entries.Render) }
+    ensures error { IfErr result (λ e. e ≡ Stop.NoMemory) }
+{
+    match session.render(alloc) {
+        Ok(picture) => Ok(Reply::Picture(picture.frame, picture.image)),
+        Err(RenderError::NoFrame) => Ok(Reply::NoFrame),
+        Err(RenderError::NoMemory) => Err(Stop::NoMemory),
     }
 }
 

@@ -78,7 +78,7 @@ fn refused(at: u64, what: BadWhat) -> Status {
 #[test]
 fn scans_are_answered(rt: HostRuntime) -> Result<(), Fail> {
     let alloc = rt.alloc();
-    let table: [(&str, &str, &str, &[Shot], &str, &str, Status); 25] = [
+    let table: [(&str, &str, &str, &[Shot], &str, &str, Status); 26] = [
         (
             "a scan without records",
             "",
@@ -185,14 +185,24 @@ fn scans_are_answered(rt: HostRuntime) -> Result<(), Fail> {
             "frame 1 blocks 2 resident 2\nplace heap\nplace none\nframe 2 blocks 4 resident 2\nplace store\nframe 3 blocks 4 resident 2\nplace heap\nend\n",
             Status::Done,
         ),
+        // A sample of 100, in two bytes, is one metre.
+        (
+            "pictures before and after a frame",
+            "\"unit\":1000",
+            "\"unit\":10000",
+            &[],
+            "render\nframe 1 0 0 0 0 1 0 0 0 0 1 0\nP5 1 1 255\ndrender\nend\n",
+            "render refused no frame\nframe 1 blocks 2 resident 2\nrender 1\nP5\n1 1\n65535\n\0dend\n",
+            Status::Done,
+        ),
         // A mirrored camera that looks back.
         (
             "a mirrored camera that looks back",
             "\"unit\":1000",
             "\"unit\":10000",
             &[],
-            "frame -1 0 0 0 0 1 0 0 0 0 -1 0\nP5 1 1 255\nd\nsum\nend\n",
-            "frame 1 blocks 2 resident 2\nsum blocks 2 known 1024 weight 1024 distance 14679424\nend\n",
+            "frame -1 0 0 0 0 1 0 0 0 0 -1 0\nP5 1 1 255\nd\nsum\nrender\nend\n",
+            "frame 1 blocks 2 resident 2\nsum blocks 2 known 1024 weight 1024 distance 14679424\nrender 1\nP5\n1 1\n65535\n\0dend\n",
             Status::Done,
         ),
         // Poses: nearly a rotation, mirrored, too great, too far, just not too far; and another size.

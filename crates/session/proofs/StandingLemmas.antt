@@ -1,6 +1,6 @@
 -- What follows for a session from what its type keeps.
 use Rattle.std.proofs.Common.{◌≡◌, ℕ, true, false, cond, ◌&&◌, ◌||◌, List, length, refl, sym, ap, subst, ◌∙◌, inl, inr, ◌⊎◌}
-use Rattle.std.proofs.Math.Bool.{and-false, or-true}
+use Rattle.std.proofs.Math.Bool.{and-false, and-true, or-true}
 use Rattle.std.specs.Prelude.{Option, Some, None, is_some, IsTrue}
 use Rattle.std.specs.FinMap.{get, contains_key, empty, get-empty}
 use Rattle.voxel_block.specs.Keys.{key_cmp}
@@ -25,6 +25,7 @@ use Rattle.streamer.proofs.Ways.{stored_is_out}
 use Rattle.block_heap.specs.Cells.{Cells as Heap}
 use Rattle.spatial_hash.specs.Table.{Table}
 use Rattle.fixed_geom.specs.Poses.{Pose}
+use Rattle.raycaster.specs.Resident.{HoldsActive}
 use Rattle.session.specs.Rooms.{StaysPut}
 use Rattle.session.specs.Answers.{SessionView, state_of}
 use Rattle.session.specs.Fold.{is_active_last, place_in, settings_of}
@@ -118,6 +119,14 @@ settled_put c p r n last put s = record {
   cells = ap (λ (h : Heap). length h.cells) put.heap ∙ s.cells;
   size = subst (HasSizeOf c) (sym put.table) s.size;
   active = λ b. ap (λ (t : Table). contains_key (contents t) b) put.table ∙ s.active b ∙ ap (λ (m : BlockMap). contains_key m b && is_active_last c.camera last b) (sym (same_blocks p r put.table put.heap put.contents));
+}
+
+-- ---- pictures
+
+-- with a last frame each of its active blocks is resident
+pub holds_active : (h : SessionView) (pose : Pose) → IsSettled h → h.last ≡ Some pose → HoldsActive h.config.camera pose h.places
+holds_active h pose s last = record {
+  resident = λ b on. s.active b ∙ ap (λ (l : Option Pose). contains_key (blocks_of h.places) b && is_active_last h.config.camera l b) last ∙ ap (λ t. contains_key (blocks_of h.places) b && t) on ∙ and-true (contains_key (blocks_of h.places) b);
 }
 
 -- ---- places
