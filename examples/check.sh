@@ -89,7 +89,7 @@ for scan in "$here"/*.scan; do
   cp "${scan%.scan}.out" "$t/want"
   run "the example $(basename "$scan")" 0 '' fuse <"$scan"
 done
-for name in typed wall turned place; do
+for name in typed wall turned place render; do
   python3 "$here/expected.py" <"$here/$name.scan" | cmp -s - "$here/$name.out"
   verdict "expected.py computes $name.out" $?
 done
@@ -154,6 +154,8 @@ verdict 'a depth map without a pose is left out, and the others are fused' $?
 python3 "$here/tum.py" "$t/recording" --config "$t/config" --frames 1 >"$t/one.scan"
 [ "$(grep -ac '^frame' "$t/one.scan")" = 1 ] && tail -c 48 "$t/one.scan" | head -c 40 | cmp -s - "$t/raster"
 verdict 'tum.py gives as many frames as are asked for, and the samples of the PNG' $?
+python3 "$here/tum.py" "$t/recording" --config "$t/config" --ask render >"$t/render.scan"
+evaluated 'a picture of a recording' "$t/render.scan"
 refuses 'tum.py refuses a folder that is none' "$here/tum.py" "$t/nothing"
 refuses 'tum.py refuses depth maps of another size' "$here/tum.py" "$t/recording"
 head -c 60 "$t/recording/depth/0.png" >"$t/recording/depth/1.png"
@@ -165,6 +167,8 @@ verdict 'view.py shows a surface' $?
 verdict 'the PLY has as many points as it says' $?
 python3 "$here/view.py" --slice "$t/a.png" --axis z --at 100 <"$here/wall.out"
 verdict 'view.py shows a slice of standard input' $?
+cat "$here/render.out" "$here/wall.out" | python3 "$here/view.py" --slice "$t/a.png" --axis z --at 100
+verdict 'view.py passes over pictures' $?
 refuses 'view.py refuses an output without voxels' "$here/view.py" "$here/typed.out" --ply "$t/a.ply"
 head -n 40 "$here/wall.out" >"$t/cut.out"
 refuses 'view.py refuses a reply that is cut off' "$here/view.py" "$t/cut.out" --ply "$t/a.ply"

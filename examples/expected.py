@@ -202,13 +202,40 @@ def place(config, state, key):
     return "heap" if is_active(config, state["last"], key) else "store"
 
 
+def picture(config, state):
+    """The picture of the map from the last pose, as a PGM: of each pixel the first depth at which the values of the points on its ray
+    fall from above 0 to at most 0, where a straight line between them is 0; 0 where they do at none."""
+    k, s, raw = config, config["voxel"], b""
+
+    def value(u, v, z):
+        x = [(2 * a + s) // (2 * s) for a in world_of(state["last"], ray(k, u, v, z))]
+        voxels = state["blocks"].get(tuple(c // 8 for c in x))
+        if voxels is None:
+            return None
+        f, w = voxels[x[0] % 8 + 8 * (x[1] % 8) + 64 * (x[2] % 8)]
+        return f if w > 0 else None
+
+    def sample(u, v):
+        depths = range(k["near"], k["far"] + 1, s)
+        values = [value(u, v, z) for z in depths]
+        for z, f, g in zip(depths, values, values[1:]):
+            if f is not None and g is not None and f > 0 >= g:
+                return min(65535, (z + s * f // (f - g)) // k["unit"])
+        return 0
+
+    for v in range(k["height"]):
+        for u in range(k["width"]):
+            raw += sample(u, v).to_bytes(2, "big")
+    return b"P5\n%d %d\n65535\n" % (k["width"], k["height"]) + raw
+
+
 def known_lines(blocks):
     return ["%d %d %d %d %d" % (8 * b[0] + i % 8, 8 * b[1] + i // 8 % 8, 8 * b[2] + i // 64, f, w)
             for b in sorted(blocks) for i, (f, w) in enumerate(blocks[b]) if w > 0]
 
 
 def answer(config, state, text, out):
-    """Answers the records of a text one after the other."""
+    """Answers the records of a text one after the other: each answer is a line, or the bytes of a picture."""
     at, lines, blocks = len(line_at(text, 0, 4096)) + 1, 1, state["blocks"]
     while True:
         if lines == 1000000:
@@ -227,6 +254,11 @@ def answer(config, state, text, out):
                     raise Refused(start + w.start(), "number")
             sides, raw, at = pgm_at(text, at)
             out.append(frame_reply(config, state, rows, sides, raw))
+        elif word == b"render" and len(words) == 1:
+            if state["frames"] == 0:
+                out.append("render refused no frame")
+            else:
+                out += ["render %d" % state["frames"], picture(config, state)]
         elif word == b"voxels" and len(words) == 1:
             known = known_lines(blocks)
             out.append("voxels %d %d" % (len(blocks), len(known)))
@@ -328,7 +360,7 @@ def main():
     except Refused as refused:
         print(refused, file=sys.stderr)
         status = 3
-    sys.stdout.write("".join(line + "\n" for line in out))
+    sys.stdout.buffer.write(b"".join(part if isinstance(part, bytes) else part.encode() + b"\n" for part in out))
     sys.exit(status)
 
 

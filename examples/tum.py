@@ -107,7 +107,7 @@ def main():
     p.add_argument("--frames", type=int, metavar="N", help="at most so many frames")
     p.add_argument("--every", type=int, default=1, metavar="N", help="every Nth frame alone")
     p.add_argument("--gap", type=float, default=0.02, metavar="SECONDS", help="between a depth map and its pose (0.02)")
-    p.add_argument("--ask", default="sum", metavar="RECORD", choices=("sum", "voxels"), help="the last record (sum)")
+    p.add_argument("--ask", default="sum", metavar="RECORD", choices=("sum", "voxels", "render"), help="the last record (sum)")
     a = p.parse_args()
     try:
         if a.every < 1 or (a.frames is not None and a.frames < 0) or not a.gap >= 0:

@@ -42,6 +42,16 @@ def unit(p):
     return scaled(p, 1 / (math.sqrt(dot(p, p)) or 1))
 
 
+def without_pictures(data):
+    """A program's output without the replies to `render`, whose pictures are no text."""
+    text = b""
+    while True:
+        m = re.search(rb"^render [0-9]+\nP5\n([0-9]+) ([0-9]+)\n65535\n", data, re.M)
+        if not m:
+            return text + data
+        text, data = text + data[:m.start()], data[m.end() + 2 * int(m[1]) * int(m[2]):]
+
+
 def distances_of(text):
     """The distance of each known voxel, by its coordinates, of the last reply to `voxels`."""
     lines = text.split("\n")
@@ -209,7 +219,7 @@ def main():
             raise BadView("the view cannot go straight up or down")
         try:
             with open(a.file, "rb") if a.file else sys.stdin.buffer as file:
-                found = distances_of(file.read().decode("ascii"))
+                found = distances_of(without_pictures(file.read()).decode("ascii"))
         except OSError as why:
             raise BadView("%s is not read: %s" % (a.file or "standard input", why.strerror))
         except UnicodeDecodeError:
