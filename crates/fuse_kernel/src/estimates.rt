@@ -63,27 +63,18 @@ impl Estimates {
         requires { row < 64 }
     {
         let start = self.corner.plus(self.y, row % 8).plus(self.z, row / 8);
-        let inverses = along(start.z, self.x.z).map(|z| 1.0 / z);
-        RowEstimates {
-            u: pixels_along(start.x, self.x.x, inverses, self.cx),
-            v: pixels_along(start.y, self.x.y, inverses, self.cy),
+        let mut estimates = RowEstimates {
+            u: [0; 8],
+            v: [0; 8],
+        };
+        for i in 0..8 {
+            let point = start.plus(self.x, i as u16);
+            let inverse = 1.0 / point.z;
+            estimates.u[i] = nearest(point.x * inverse + self.cx);
+            estimates.v[i] = nearest(point.y * inverse + self.cy);
         }
+        estimates
     }
-}
-
-/// A coordinate along a row of 8 voxels.
-fn along(start: f32, step: f32) -> [f32; 8] {
-    [0.0, 1.0, 2.0, 3.0, 4.0, 5.0, 6.0, 7.0].map(|i| start + i * step)
-}
-
-/// The estimates along a row, by the inverses of the depths and the centre in pixels.
-fn pixels_along(start: f32, step: f32, inverses: [f32; 8], centre: f32) -> [i16; 8] {
-    let coordinates = along(start, step);
-    let mut pixels = [0; 8];
-    for i in 0..8 {
-        pixels[i] = nearest(coordinates[i] * inverses[i] + centre);
-    }
-    pixels
 }
 
 impl Scaled {
