@@ -94,7 +94,7 @@ impl<'a> Kernel<'a> {
         let estimates = estimates.row(row);
         let mut near_cam_q30 = steps.row(row);
         for x in 0..8 {
-            let estimate = (estimates.u[usize::from(x)], estimates.v[usize::from(x)]);
+            let estimate = estimates.at(x);
             self.update_voxel(block, 8 * row + x, near_cam_q30.point(), estimate);
             near_cam_q30 = near_cam_q30.plus(steps.x);
         }
