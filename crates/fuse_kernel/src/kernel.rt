@@ -21,7 +21,8 @@ use depth_view::Depths;
 use fixed_geom::{Pose, Vec3};
 use voxel_block::{Block, BlockKey, Voxel};
 
-/// The update of blocks by one frame, without divisions. It is made once a frame, and has what all voxels need.
+/// The update of blocks by one frame. It is made once a frame, and has what all voxels need. A division is made only where
+/// the estimate of a pixel is wrong.
 #[derive(Drop)]
 pub struct Kernel<'a> {
     pub camera: &'a Camera,
