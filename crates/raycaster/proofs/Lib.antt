@@ -1,5 +1,0 @@
-pub mod BlockLemmas
-pub mod HitLemmas
-pub mod PictureLemmas
-pub mod PointLemmas
-pub mod RowLemmas

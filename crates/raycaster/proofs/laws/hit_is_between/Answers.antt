@@ -1,5 +1,0 @@
-use Rattle.raycaster.proofs.PointLemmas.{hit_between}
-use Rattle.raycaster.proofs.laws.hit_is_between.Goals as goal
-
-pub returns : goal.returns
-returns c = hit_between
