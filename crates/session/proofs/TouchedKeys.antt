@@ -71,6 +71,9 @@ rows_from f v h low =
     let e : h - v ≡ suc (h - (v + 1)) = omega arith in
     ap (λ n. flat_map f (range_with_len v n)) e
 
+pub all_rows : (f : ℕ → List BlockKey) (h : ℕ) → flat_map f (range_with_len 0 (h - 0)) ≡ flat_map f (range_with_len 0 h)
+all_rows f h = (let e : h - 0 ≡ h = omega arith in ap (λ n. flat_map f (range_with_len 0 n)) e)
+
 pub no_rows : (f : ℕ → List BlockKey) (v h : ℕ) → h ≤ v → flat_map f (range_with_len v (h - v)) ≡ []
 no_rows f v h high = (let e : h - v ≡ 0 = omega arith in ap (λ n. flat_map f (range_with_len v n)) e)
 

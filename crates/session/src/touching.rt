@@ -65,7 +65,6 @@ pub fn touch_keys(scratch: &mut Scratch, hash: &HashTable, frame: &Frame) -> Res
 }
 
 /// Touches the blocks of a truncation band. What the memo has noted was touched for this band.
-#[tactic(auto, using(crate::proofs::TouchedKeys::noted_none))]
 fn touch_band(
     table: &mut HashTable,
     memo: &mut Memo,

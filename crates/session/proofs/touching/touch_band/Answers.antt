@@ -1,10 +1,22 @@
-use Rattle.std.proofs.Common.{◌<◌, subst, ◌∙◌, arith}
+use Rattle.std.proofs.Common.{◌<◌, ◌||◌, ap, refl, rules, subst, ◌∙◌, arith}
+use Rattle.std.specs.FinMap.{contains_key}
+use Rattle.std.specs.List.{list_any}
+use Rattle.voxel_block.specs.Keys.{same_key}
 use Rattle.band_walk.specs.BandViews.{view_of_band}
 use Rattle.band_walk.specs.Bands.{band, row_blocks}
 use Rattle.spatial_hash.specs.Contents.{contents}
 use Rattle.session.specs.Rooms.{IsSpent, Touches}
-use Rattle.session.proofs.TouchedKeys.{no_rows, noted_next, remaining_end, remaining_next, remaining_spent, row_spent, row_touched, rows_from}
+use Rattle.session.proofs.TouchedKeys.{all_rows, no_rows, noted_next, noted_none, remaining_end, remaining_next, remaining_spent, row_spent, row_touched, rows_from}
 use Rattle.session.proofs.touching.touch_band.Goals as goal
+
+pub loop-v-init : goal.loop-v-init
+loop-v-init c =
+    let rows = all_rows (row_blocks (view_of_band c.args.band.now)) c.args.band.now.frame.now.height in
+    record {
+      left = λ b. ap (λ ks. contains_key (contents c.args.table.now) b || list_any (same_key b) ks) rows;
+      noted = search (rules, noted_none);
+      size = record { buckets = refl; nodes = refl };
+    }
 
 pub returns-in_err-touch_all-clause-full : goal.returns-in_err-touch_all-clause-full
 returns-in_err-touch_all-clause-full c = λ _.
