@@ -4,8 +4,7 @@ use Rattle.std.specs.Prelude.{ℤ, pos, negsuc, ◌+ℤ◌, ◌≤ℤ◌, unsign
 use Rattle.std.proofs.lemmas.Int.{ints, to_z-of_z, fits_signed_from_abs}
 use mir.Val.{SFits, to_z, of_z}
 use mir.Syntax.{w64, w128}
-use Rattle.fixed_geom.specs.declared.vector.Vec3.{Vec3}
-use Rattle.fixed_geom.specs.Vectors.{AreWithin, IsWithin}
+use Rattle.fixed_geom.specs.Vectors.{IsWithin}
 use Rattle.camera.specs.declared.camera.CameraFields.{CameraFields}
 use Rattle.camera.specs.Cameras.{HasRanges}
 
@@ -31,9 +30,6 @@ fits128 z h = fits_signed_from_abs w128 z (omega arith)
 -- a bound is kept where it grows
 pub wider : (m n : ℤ) (z : ℤ) → m ≤ℤ n → IsWithin m z → IsWithin n z
 wider m n z h w = record { low = omega (arith, ints); high = omega (arith, ints) }
-
-pub all_wider : (m n : ℤ) (v : Vec3) → m ≤ℤ n → AreWithin m v → AreWithin n v
-all_wider m n v h w = record { x = wider m n v.x h w.x; y = wider m n v.y h w.y; z = wider m n v.z h w.z }
 
 -- a number of 128 bits that is a bounded number fits 64 bits, and stays itself
 pub narrow_fits : (r q : ℤ) → r ≡ q → IsWithin (pos 1152921504606846976) q → SFits w64 (to_z w128 (of_z w128 r))

@@ -177,15 +177,6 @@ impl Camera {
         projection::project(&self.fields, c)
     }
 
-    /// The same for a camera point within `2^26` micrometres on each axis, by numbers of 64 bits.
-    pub fn project_near(&self, c: Vec3) -> Option<(u32, u32)>
-        requires { AreWithin (pos (2 ^ 26)) c }
-        ensures value { result ≡ pixel_of self.now c }
-        ensures inside { IfSome result (λ p. ((pos p.0) <ℤ self.now.width) × ((pos p.1) <ℤ self.now.height)) }
-    {
-        projection::project_near(&self.fields, c)
-    }
-
     /// Whether a block is active at a pose: its centre lies in the active sphere. Where it is not, none of its voxels
     /// projects inside the image at a depth that a frame may touch.
     pub fn active(&self, pose: &Pose, key: BlockKey) -> bool

@@ -1,4 +1,4 @@
-ghost use Rattle.std.specs.Prelude.{◌≡◌, ◌^◌, pos, ◌+ℤ◌, ◌-ℤ◌, ◌*ℤ◌, ◌≤ℤ◌, ◌<ℤ◌, ◌≤◌, unsigned_abs, IfSome, Some, None, if◌then◌else◌};
+ghost use Rattle.std.specs.Prelude.{◌≡◌, ◌^◌, pos, ◌+ℤ◌, ◌-ℤ◌, ◌*ℤ◌, ◌≤ℤ◌, ◌<ℤ◌, unsigned_abs, IfSome, Some, None, if◌then◌else◌};
 ghost use Rattle.fixed_geom.specs.Division.{floor_div};
 ghost use Rattle.fixed_geom.specs.Vectors.{AreWithin, IsWithin};
 ghost use Rattle.camera.specs.Cameras.{HasRanges, depth_of, is_in_image, project as pixel_of, within};
@@ -36,21 +36,6 @@ pub fn project(camera: &CameraFields, point: Vec3) -> Option<(u32, u32)>
     pixel_in_image(camera, u, v, point.z)
 }
 
-/// The same for a camera point within `2^26` micrometres on each axis, by numbers of 64 bits.
-pub fn project_near(camera: &CameraFields, point: Vec3) -> Option<(u32, u32)>
-    requires camera { HasRanges camera.now }
-    requires point { AreWithin (pos (2 ^ 26)) point }
-    ensures value { result ≡ pixel_of camera.now point }
-    ensures inside { IfSome result (λ p. ((pos p.0) <ℤ camera.now.width) × ((pos p.1) <ℤ camera.now.height)) }
-{
-    if point.z <= 0 {
-        return None;
-    }
-    let u = near_pixel_times_depth(camera.fx, camera.cx, point.x, point.z);
-    let v = near_pixel_times_depth(camera.fy, camera.cy, point.y, point.z);
-    pixel_in_image(camera, u, v, point.z)
-}
-
 /// The pixel with the coordinates `u / z` and `v / z`. `None` where it is not one of the image's, which costs no
 /// division.
 fn pixel_in_image(camera: &CameraFields, u: i64, v: i64, z: i64) -> Option<(u32, u32)>
@@ -80,33 +65,6 @@ fn pixel_times_depth(f: i64, c: i64, x: i64, z: i64) -> i64
     (times(f, x) + times(c + 32768, z)).div_euclid(65536) as i64
 }
 
-/// The same for a point within `2^26`.
-fn near_pixel_times_depth(f: i64, c: i64, x: i64, z: i64) -> i64
-    requires f { IsWithin (pos (2 ^ 30)) f }
-    requires c { IsWithin (pos (2 ^ 27)) c }
-    requires x { IsWithin (pos (2 ^ 26)) x }
-    requires z { IsWithin (pos (2 ^ 26)) z }
-    ensures { result ≡ floor_div (f *ℤ x +ℤ c *ℤ z +ℤ pos 32768 *ℤ z) (pos 65536) }
-{
-    floor_div_65536(near_times(f, x) + near_times(c + 32768, z))
-}
-
-fn near_times(a: i64, b: i64) -> i64
-    requires a { IsWithin (pos (2 ^ 30)) a }
-    requires b { IsWithin (pos (2 ^ 26)) b }
-    ensures value { result ≡ a *ℤ b }
-    ensures bound { IsWithin (pos (2 ^ 56)) result }
-{
-    a * b
-}
-
-fn floor_div_65536(a: i64) -> i64
-    requires { IsWithin (pos (2 ^ 57)) a }
-    ensures { result ≡ floor_div a (pos 65536) }
-{
-    a >> 16
-}
-
 /// Whether the pixel coordinate `scaled / z` is one of the image's.
 fn is_across(scaled: i64, size: i64, z: i64) -> bool
     requires size { IsWithin (pos 2048) size }
@@ -117,23 +75,12 @@ fn is_across(scaled: i64, size: i64, z: i64) -> bool
     is_between(0, size * z - 1, scaled)
 }
 
-/// The pixel coordinate `scaled / z`. Where both fit 32 bits so does the division, which is far quicker then.
+/// The pixel coordinate `scaled / z`.
 fn pixel(scaled: i64, z: i64) -> u32
     requires front { pos 1 ≤ℤ z }
     requires low { pos 0 ≤ℤ floor_div scaled z }
     requires high { floor_div scaled z ≤ℤ pos 2047 }
     ensures { pos result ≡ floor_div scaled z }
 {
-    if 0 <= scaled && scaled < 0x1_0000_0000 && z < 0x1_0000_0000 {
-        quotient(scaled as u32, z as u32)
-    } else {
-        (scaled / z) as u32
-    }
-}
-
-fn quotient(scaled: u32, z: u32) -> u32
-    requires { 1 ≤ z }
-    ensures { pos result ≡ floor_div (pos scaled) (pos z) }
-{
-    scaled / z
+    scaled.div_euclid(z) as u32
 }

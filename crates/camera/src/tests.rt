@@ -188,9 +188,6 @@ fn a_camera_takes_depths_and_pixels(rt: HostRuntime) -> Result<(), BadCamera> {
     assert_eq!(rt; camera.project(ahead), Some((0, 0)));
     assert_eq!(rt; camera.project(beside), None);
     assert_eq!(rt; camera.project(at_camera), None);
-    assert_eq!(rt; camera.project_near(ahead), Some((0, 0)));
-    assert_eq!(rt; camera.project_near(beside), None);
-    assert_eq!(rt; camera.project_near(at_camera), None);
     assert_eq!(rt; camera.ray(0, 0, 1000000), ahead);
     Ok(())
 }

@@ -17,7 +17,7 @@ pub mod vector;
 
 pub use cam_q30::CamQ30;
 pub use decimal::{BadNumber, read_decimal};
-pub use division::{floor_div, floor_div_from, round_div};
+pub use division::{floor_div, round_div};
 pub use pose::{BadPose, Pose, PoseRows};
 pub use quotients::{quotient, reciprocal};
 pub use vector::Vec3;

@@ -173,8 +173,15 @@ fn quotients_are_floors(rt: HostRuntime) {
     assert_eq!(rt; round_div(-5, 10), 0);
     assert_eq!(rt; round_div(-6, 10), -1);
     assert_eq!(rt; round_div(-most, most), -1);
-    for (name, estimate) in [("right", -4), ("too low", -5), ("too high", -3)] {
-        assert_eq!(rt; floor_div_from(estimate, -7, 2), -4, "{name}");
+    for (n, by) in [
+        (0, 2),
+        (6, 7),
+        (7, 7),
+        (8, 7),
+        (65535, 40000),
+        (1 << 40, 8000),
+    ] {
+        assert_eq!(rt; quotient(n, by, reciprocal(by)), n / by, "{n} by {by}");
     }
 }
 

@@ -1,4 +1,5 @@
 pub mod CornerLemmas
+pub mod LaneLemmas
 pub mod LawLemmas
 pub mod Machine
 pub mod MeanLemmas

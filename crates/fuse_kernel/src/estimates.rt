@@ -7,7 +7,7 @@ ghost use Rattle.fuse_kernel.specs.VoxelSteps.{HasStepBounds, NearCamQ30Within};
 use crate::near_cam_q30::NearCamQ30;
 use crate::pixel_axis::PixelAxis;
 use crate::voxel_steps::VoxelSteps;
-use std::num::f32_to_bits_with_nan;
+use std::simd::f32x8;
 
 /// By how much an estimate is raised, in pixels: whole quotients are frequent, and an error of the floats must not take
 /// one for less.
@@ -16,11 +16,11 @@ const ROUNDING: f32 = 0.000_488_281_25;
 /// A float of this size has whole numbers in its last bits.
 const WHOLE: f32 = 12_582_912.0;
 
-/// Estimates of the columns and rows of a row's pixels.
+/// Estimates of the columns and rows of the pixels of a row of 8 voxels, in the lowest 16 bits.
 #[derive(Clone, Copy)]
 pub(crate) struct RowEstimates {
-    pub(crate) u: [i16; 8],
-    pub(crate) v: [i16; 8],
+    u: [u32; 8],
+    v: [u32; 8],
 }
 
 /// A camera point, or a step, whose first two coordinates are times the focal lengths.
@@ -63,27 +63,30 @@ impl Estimates {
         requires { row < 64 }
     {
         let start = self.corner.plus(self.y, row % 8).plus(self.z, row / 8);
-        let inverses = along(start.z, self.x.z).map(|z| 1.0 / z);
+        let x = along(start.x, self.x.x);
+        let y = along(start.y, self.x.y);
+        let inverse = f32x8::splat(1.0) / along(start.z, self.x.z);
         RowEstimates {
-            u: pixels_along(start.x, self.x.x, inverses, self.cx),
-            v: pixels_along(start.y, self.x.y, inverses, self.cy),
+            u: nearest(x * inverse + f32x8::splat(self.cx)),
+            v: nearest(y * inverse + f32x8::splat(self.cy)),
         }
     }
 }
 
-/// A coordinate along a row of 8 voxels.
-fn along(start: f32, step: f32) -> [f32; 8] {
-    [0.0, 1.0, 2.0, 3.0, 4.0, 5.0, 6.0, 7.0].map(|i| start + i * step)
+impl RowEstimates {
+    /// The estimates of the column and the row of the pixel of a voxel.
+    pub(crate) fn at(&self, x: u16) -> (i16, i16)
+        requires { x < 8 }
+    {
+        let x = usize::from(x);
+        (low_bits(self.u[x]), low_bits(self.v[x]))
+    }
 }
 
-/// The estimates along a row, by the inverses of the depths and the centre in pixels.
-fn pixels_along(start: f32, step: f32, inverses: [f32; 8], centre: f32) -> [i16; 8] {
-    let coordinates = along(start, step);
-    let mut pixels = [0; 8];
-    for i in 0..8 {
-        pixels[i] = nearest(coordinates[i] * inverses[i] + centre);
-    }
-    pixels
+/// A coordinate along a row of 8 voxels.
+fn along(start: f32, step: f32) -> f32x8 {
+    f32x8::from_array([0.0, 1.0, 2.0, 3.0, 4.0, 5.0, 6.0, 7.0]) * f32x8::splat(step)
+        + f32x8::splat(start)
 }
 
 impl Scaled {
@@ -144,8 +147,18 @@ fn float(x: i64) -> f32
     f32::from((x >> 16) as i16) * 65536.0 + f32::from((x & 0xffff) as u16)
 }
 
-/// The whole number nearest to a coordinate, where it fits 16 bits.
-fn nearest(coordinate: f32) -> i16 {
-    let bits = f32_to_bits_with_nan(coordinate + WHOLE);
+/// The whole numbers nearest to coordinates in the lowest 16 bits, where they fit those.
+fn nearest(coordinates: f32x8) -> [u32; 8] {
+    number_bits(coordinates + f32x8::splat(WHOLE))
+}
+
+/// The bits of floats. A NaN and a number below 0 have those of 0.
+fn number_bits(x: f32x8) -> [u32; 8] {
+    let zero = f32x8::splat(0.0);
+    x.simd_ge(zero).select(x, zero).to_bits().to_array()
+}
+
+/// The lowest 16 bits as a number.
+fn low_bits(bits: u32) -> i16 {
     ((bits & 0xffff) as u16).cast_signed()
 }

@@ -21,7 +21,8 @@ use depth_view::Depths;
 use fixed_geom::{Pose, Vec3};
 use voxel_block::{Block, BlockKey, Voxel};
 
-/// The update of blocks by one frame, without divisions. It is made once a frame, and has what all voxels need.
+/// The update of blocks by one frame. It is made once a frame, and has what all voxels need. A division is made only where
+/// the estimate of a pixel is wrong.
 #[derive(Drop)]
 pub struct Kernel<'a> {
     pub camera: &'a Camera,
@@ -94,7 +95,7 @@ impl<'a> Kernel<'a> {
         let estimates = estimates.row(row);
         let mut near_cam_q30 = steps.row(row);
         for x in 0..8 {
-            let estimate = (estimates.u[usize::from(x)], estimates.v[usize::from(x)]);
+            let estimate = estimates.at(x);
             self.update_voxel(block, 8 * row + x, near_cam_q30.point(), estimate);
             near_cam_q30 = near_cam_q30.plus(steps.x);
         }

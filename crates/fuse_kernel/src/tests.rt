@@ -407,7 +407,8 @@ fn estimates_are_the_pixels(rt: HostRuntime) {
         (63, [320, 325, 329, 334, 339, 343, 348, 353], 273),
     ] {
         let found = estimates.row(row);
-        assert_eq!(rt; found.u, u);
-        assert_eq!(rt; found.v, [v; 8]);
+        for x in 0..8 {
+            assert_eq!(rt; found.at(x), (u[usize::from(x)], v));
+        }
     }
 }

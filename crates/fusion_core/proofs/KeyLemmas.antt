@@ -1,10 +1,7 @@
 -- The entries of a map by its keys.
-use Rattle.std.proofs.Common.{◌≡◌, T, Bool, true, false, cond, ◌&&◌, ◌||◌, List, [], ◌∷◌, map, refl, sym, ap, subst, ◌∙◌}
+use Rattle.std.proofs.Common.{◌≡◌, T, true, false, cond, ◌&&◌, List, [], ◌∷◌, map, refl, sym, ap, subst, ◌∙◌}
 use Rattle.std.specs.Prelude.{Option, Some, None, is_some}
-use Rattle.std.specs.List.{list_any}
-use Rattle.std.specs.Ordering.{is_eq, is_lt}
-use Rattle.std.specs.declared.cmp.Ordering.{Ordering}
-use Rattle.std.specs.declared.cmp.Ordering.TheVariants.{Less, Equal, Greater}
+use Rattle.std.specs.Ordering.{is_lt}
 use Rattle.std.specs.FinMap.{FinMap, get, keys, entries, entries_sorted, contains_key-keys, find, from_entries, is_sorted, same_map, get-entries, get-from_entries}
 use Rattle.std.specs.FinMap.Entries.{below_all}
 use Rattle.voxel_block.specs.declared.key.BlockKey.{BlockKey}

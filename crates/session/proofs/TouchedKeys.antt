@@ -8,7 +8,7 @@ use Rattle.std.specs.Prelude.{Result, Ok, Err, OnErr}
 use Rattle.std.proofs.lemmas.List.Folds.{list_any-append}
 use Rattle.std.proofs.lemmas.Map.Views.{Contains-from_any, list_any-from_Contains}
 use Rattle.voxel_block.specs.declared.key.BlockKey.{BlockKey}
-use Rattle.voxel_block.specs.Keys.{key_cmp, same_key}
+use Rattle.voxel_block.specs.Keys.{same_key}
 use Rattle.voxel_block.proofs.DistinctKeys.{has_put}
 use Rattle.voxel_block.proofs.KeyLaws.{keys_total, same_key_is}
 use Rattle.band_walk.specs.Memos.{IsNoted}
