@@ -117,11 +117,7 @@ pub fn read_voxels(
 }
 
 /// The picture from the pose of the last accepted frame.
-pub fn read_picture(
-    alloc: Global,
-    config: &Config,
-    map: &FusedMap,
-) -> Result<Picture, RenderError>
+pub fn read_picture(alloc: Global, config: &Config, map: &FusedMap) -> Result<Picture, RenderError>
     requires { IsSettled (session_of config.now map.now) }
     ensures frame { IfOk result (λ p. p.frame ≡ map.now.frames) }
     ensures image { IfOk result (λ p. picture_at config.now (state_of (session_of config.now map.now)) ≡ Some p.image) }

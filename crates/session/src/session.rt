@@ -13,7 +13,9 @@ ghost use Rattle.session.specs.Rooms.{StaysPut};
 ghost use Rattle.session.specs.Standing.{Stands};
 
 use crate::error::{FrameError, ReadError, RenderError};
-use crate::fused_map::{FusedMap, Picture, find_place, first_map, fuse_frame, read_picture, read_totals, read_voxels};
+use crate::fused_map::{
+    FusedMap, Picture, find_place, first_map, fuse_frame, read_picture, read_totals, read_voxels,
+};
 use crate::scratch::Scratch;
 use depth_frame::DepthFrame;
 use fixed_geom::{BadPose, PoseRows};

@@ -241,7 +241,12 @@ fn a_picture_is_taken_from_the_last_accepted_pose(rt: HostRuntime) {
         // 990000 + 10000 * 8191 / 8191.
         ("the wall", 64, &[WALL], Ok((1, 1000))),
         // 1000000 + 10000 * 4096 / 8192.
-        ("both walls", 64, &[WALL, (AHEAD, 0, 1, 1010)], Ok((2, 1005))),
+        (
+            "both walls",
+            64,
+            &[WALL, (AHEAD, 0, 1, 1010)],
+            Ok((2, 1005)),
+        ),
         (
             "after a refused frame",
             64,

@@ -1,3 +1,5 @@
+ghost use Rattle.std.specs.Prelude.{◌≡◌, IfOk};
+
 use crate::scratch::Scratch;
 use crate::touching::touch_keys;
 use band_walk::Memo;
@@ -8,7 +10,7 @@ use fixed_geom::{PoseRows, Vec3};
 use fusion_core::{Frame, Settings};
 use spatial_hash::HashTable;
 use std::alloc::Global;
-use voxel_block::BlockKey;
+use voxel_block::{BlockKey, NoMemory};
 
 const ONE: i64 = 1 << 30;
 
@@ -45,27 +47,41 @@ fn frame(alloc: Global, sample: u16) -> Option<Frame> {
     Frame::offered(&settings, &rows, DepthFrame::make(1, 8, raw)).ok()
 }
 
-// How many blocks the band of a wall has, and how many of the blocks (0, 0, z) are among them.
-fn count(alloc: Global, sample: u16, expected: &[i16]) -> Option<(usize, usize)> {
-    let frame = frame(alloc, sample)?;
-    let hash = HashTable::make(alloc, 1, 67).ok()?;
-    let mut scratch = Scratch {
-        slopes: Slopes::make(alloc, frame.camera()).ok()?,
-        touched: HashTable::make(alloc, 1, 67).ok()?,
-        memo: Memo::make(alloc).ok()?,
+// What a frame works with over a table of one bucket and 67 nodes.
+fn scratch(alloc: Global, frame: &Frame) -> Result<Scratch, NoMemory>
+    ensures { IfOk result (λ s. (s.touched.buckets ≡ 1) × (s.touched.nodes ≡ 67) × (s.slopes.fields ≡ frame.now.camera)) }
+{
+    Ok(Scratch {
+        slopes: Slopes::make(alloc, frame.camera())?,
+        touched: HashTable::make(alloc, 1, 67)?,
+        memo: Memo::make(alloc)?,
         keys: Vec::new(alloc),
         depths: Depths::make(alloc),
+    })
+}
+
+// How many blocks the band of a wall has, and how many of the blocks (0, 0, z) are among them.
+fn count(alloc: Global, sample: u16, expected: &[i16]) -> Result<Option<(usize, usize)>, NoMemory> {
+    let Some(frame) = frame(alloc, sample) else {
+        return Ok(None);
     };
-    touch_keys(&mut scratch, &hash, &frame).ok()?;
-    let touched = &scratch.touched;
+    let hash = HashTable::make(alloc, 1, 67)?;
+    let mut scratch = scratch(alloc, &frame)?;
+    if touch_keys(&mut scratch, &hash, &frame).is_err() {
+        return Ok(None);
+    }
     let mut found = 0_usize;
     for z in expected {
-        if touched.find(BlockKey { x: 0, y: 0, z: *z }).is_some() {
+        if scratch
+            .touched
+            .find(BlockKey { x: 0, y: 0, z: *z })
+            .is_some()
+        {
             found = found.saturating_add(1);
         }
     }
-    let all = touched.entries(alloc).ok()?;
-    Some((all.len(), found))
+    let all = scratch.touched.entries(alloc)?;
+    Ok(Some((all.len(), found)))
 }
 
 #[test]
@@ -74,7 +90,7 @@ fn bands_of_many_rows(rt: HostRuntime) {
     for (sample, blocks, n) in [(1000, [12, 13].as_slice(), 20), (0, &[], 0), (499, &[], 0)] {
         assert_eq!(rt;
             count(alloc, sample, blocks),
-            Some((n, blocks.len())),
+            Ok(Some((n, blocks.len()))),
             "at {}",
             sample
         );
