@@ -49,10 +49,13 @@ fn frame(alloc: Global, sample: u16) -> Option<Frame> {
 fn count(alloc: Global, sample: u16, expected: &[i16]) -> Option<(usize, usize)> {
     let frame = frame(alloc, sample)?;
     let hash = HashTable::make(alloc, 1, 67).ok()?;
+    let slopes = Slopes::make(alloc, frame.camera()).ok()?;
+    let touched = HashTable::make(alloc, 1, 67).ok()?;
+    let memo = Memo::make(alloc).ok()?;
     let mut scratch = Scratch {
-        slopes: Slopes::make(alloc, frame.camera()).ok()?,
-        touched: HashTable::make(alloc, 1, 67).ok()?,
-        memo: Memo::make(alloc).ok()?,
+        slopes,
+        touched,
+        memo,
         keys: Vec::new(alloc),
         depths: Depths::make(alloc),
     };
