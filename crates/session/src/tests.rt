@@ -217,7 +217,17 @@ fn blocks_leave_the_heap_and_come_back(rt: HostRuntime) {
     }
 }
 
-// The number of accepted frames, and the sides and samples of the picture.
+// Fuses or refuses frames one after the other, and says whether the memory sufficed.
+fn fuse_all(alloc: Global, session: &mut Session, shots: &[Shot]) -> bool {
+    for shot in shots {
+        if fuse(alloc, session, *shot).is_none() {
+            return false;
+        }
+    }
+    true
+}
+
+// The number of accepted frames, and the sides and the first sample of the picture.
 fn picture(
     alloc: Global,
     session: &Session,
@@ -265,9 +275,7 @@ fn a_picture_is_taken_from_the_last_accepted_pose(rt: HostRuntime) {
         let session = session(alloc, heap_blocks);
         assert!(rt; session.is_some());
         if let Some(mut session) = session {
-            for shot in shots {
-                assert!(rt; fuse(alloc, &mut session, *shot).is_some());
-            }
+            assert!(rt; fuse_all(alloc, &mut session, shots));
             let wanted = answer.map(|(frame, sample)| (frame, (1, 1), Some(sample)));
             assert_eq!(rt; picture(alloc, &session), wanted, "{}", name);
         }
