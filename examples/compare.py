@@ -159,12 +159,12 @@ def some_scan(r):
     line = broken_config(r, k) if r.random() < 0.12 else make_config.line(k)
     records = []
     for _ in range(r.choice([0, 1, 2, 3, 3, 4])):
-        records += [frame(r, k)] + r.choice([[], [b"sum\n"], [b"\n", b" \t\r\n"], [place(r, k), place(r, k)]])
-    records += r.choice([[b"voxels\n"], [b"sum\n"], []])
+        records += [frame(r, k)] + r.choice([[], [b"sum\n"], [b"\n", b" \t\r\n"], [place(r, k), place(r, k)], [b"render\n"]])
+    records += r.choice([[b"voxels\n"], [b"sum\n"], [b" render \r\n"], []])
     for _ in range(2):
         if r.random() < 0.04:
             records.insert(r.randint(0, len(records)), r.choice([
-                b"Sum\n", b"sum 1\n", b"place\n", b"end 1\n", b"frame\n", b"fram\n", b"\x00\n", b"\xff\n", b" voxels \r\n", b"x" * 1024 + b"\n",
+                b"Sum\n", b"sum 1\n", b"render\n", b"render 1\n", b"renders\n", b"place\n", b"end 1\n", b"frame\n", b"fram\n", b"\x00\n", b"\xff\n", b" voxels \r\n", b"x" * 1024 + b"\n",
                 b" " * 1025 + b"\n", b" " * 1024 + b"\n", b"x" * 2000, b"end\n", b"\x0csum\n"]))
     text = line.encode() + b"\n" + b"".join(records)
     text += b"end\n" if r.random() < 0.9 else b"end"
@@ -205,8 +205,10 @@ def main():
         text = some_scan(random.Random("%d %d" % (a.seed, n)))
         wanted = answer([sys.executable, os.path.join(HERE, "expected.py")], text)
         kinds["scans read to their end" if wanted[1] == 0 else "scans refused" if wanted[1] == 3 else "evaluator failed"] += 1
-        for line in wanted[0].decode().split("\n"):
-            if line.startswith("frame"):
+        for line in wanted[0].decode("latin-1").split("\n"):
+            if re.fullmatch("render [0-9]+", line):
+                kinds["renders"] += 1
+            elif line.startswith("frame"):
                 kinds["frames refused" if "refused" in line else "frames fused"] += 1
             elif line.startswith("place"):
                 kinds["answers '%s'" % line] += 1

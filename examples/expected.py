@@ -202,6 +202,35 @@ def place(config, state, key):
     return "heap" if is_active(config, state["last"], key) else "store"
 
 
+def known_value(config, blocks, rows, u, v, j):
+    """The distance at point j of a pixel's walk, where it is known: that of the voxel nearest to the point."""
+    s = config["voxel"]
+    p = world_of(rows, ray(config, u, v, config["near"] + j * s))
+    n = [(2 * p[i] + s) // (2 * s) for i in range(3)]
+    voxels = blocks.get(tuple(c // 8 for c in n))
+    f, w = voxels[n[0] % 8 + 8 * (n[1] % 8) + 64 * (n[2] % 8)] if voxels else (0, 0)
+    return f if w > 0 else None
+
+
+def seen(config, blocks, rows, u, v):
+    """The sample of a pixel: the depth of the first surface on its ray, 0 where there is none."""
+    s, near = config["voxel"], config["near"]
+    before = known_value(config, blocks, rows, u, v, 0)
+    for j in range((config["far"] - near) // s):
+        after = known_value(config, blocks, rows, u, v, j + 1)
+        if before is not None and after is not None and before > 0 >= after:
+            return min(65535, (near + j * s + s * before // (before - after)) // config["unit"])
+        before = after
+    return 0
+
+
+def picture(config, state):
+    """The written PGM of what the map shows from the last frame's pose."""
+    width, height = config["width"], config["height"]
+    samples = [seen(config, state["blocks"], state["last"], u, v) for v in range(height) for u in range(width)]
+    return b"P5\n%d %d\n65535\n" % (width, height) + b"".join(sample.to_bytes(2, "big") for sample in samples)
+
+
 def known_lines(blocks):
     return ["%d %d %d %d %d" % (8 * b[0] + i % 8, 8 * b[1] + i // 8 % 8, 8 * b[2] + i // 64, f, w)
             for b in sorted(blocks) for i, (f, w) in enumerate(blocks[b]) if w > 0]
@@ -240,6 +269,10 @@ def answer(config, state, text, out):
                 if not re.fullmatch(rb"-?[0-9]{1,5}", w[0]) or not -2 ** 15 <= int(w[0]) < 2 ** 15:
                     raise Refused(start + w.start(), "number")
             out.append("place " + place(config, state, tuple(int(w[0]) for w in words[1:])))
+        elif word == b"render" and len(words) == 1:
+            out.append("render %d" % state["frames"] if state["frames"] else "render refused no frame")
+            if state["frames"]:
+                out.append(picture(config, state))
         elif word == b"end" and len(words) == 1:
             out.append("end")
             return
@@ -328,7 +361,8 @@ def main():
     except Refused as refused:
         print(refused, file=sys.stderr)
         status = 3
-    sys.stdout.write("".join(line + "\n" for line in out))
+    sys.stdout.buffer.write(b"".join(part if isinstance(part, bytes) else part.encode() + b"\n" for part in out))
+    sys.stdout.buffer.flush()
     sys.exit(status)
 
 
