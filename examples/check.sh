@@ -161,6 +161,21 @@ refuses 'tum.py refuses depth maps of another size' "$here/tum.py" "$t/recording
 head -c 60 "$t/recording/depth/0.png" >"$t/recording/depth/1.png"
 refuses 'tum.py refuses a PNG that is cut off' "$here/tum.py" "$t/recording" --config "$t/config"
 
+{ head -c -11 "$here/corner.scan"; printf 'render\nsum\nend\n'; } >"$t/render.scan"
+evaluated 'a render of the corner' "$t/render.scan"
+python3 "$here/view.py" "$t/out" --split "$t/split" && grep -q '^render 3$' "$t/split/replies.txt" && grep -q '^end$' "$t/split/replies.txt"
+verdict 'view.py takes an output apart' $?
+tail -c 6144 "$t/split/render-1.pgm" | cmp -s - <(tail -c +"$(($(grep -abo '^render 3$' "$t/out" | cut -d: -f1) + 24))" "$t/out" | head -c 6144)
+verdict 'the PGM has the samples that the program wrote' $?
+if command -v pamfile >/dev/null; then
+  pamfile "$t/split/render-1.pgm" | grep -q 'PGM raw, 64 by 48  *maxval 65535'
+  verdict 'Netpbm reads the PGM' $?
+fi
+head -c -2000 "$t/out" >"$t/cut.out"
+refuses 'view.py refuses a render that is cut off' "$here/view.py" "$t/cut.out" --split "$t/split"
+{ head -n 1 "$here/typed.scan"; printf 'render\nend\n'; } >"$t/render.scan"
+evaluated 'a render before the first frame' "$t/render.scan"
+
 python3 "$here/view.py" "$here/corner.out" --ply "$t/a.ply" --slice "$t/a.png" --surface "$t/b.png" --width 64
 verdict 'view.py shows a surface' $?
 [ "$(sed -n 's/^element vertex //p' "$t/a.ply")" = "$(sed '1,/^end_header/d' "$t/a.ply" | grep -c .)" ]

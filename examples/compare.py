@@ -207,7 +207,7 @@ def main():
         kinds["scans read to their end" if wanted[1] == 0 else "scans refused" if wanted[1] == 3 else "evaluator failed"] += 1
         for line in wanted[0].decode("latin-1").split("\n"):
             if line.startswith("render"):
-                kinds["pictures refused" if "refused" in line else "pictures"] += 1
+                kinds["renders refused" if "refused" in line else "renders"] += 1
             elif line.startswith("frame"):
                 kinds["frames refused" if "refused" in line else "frames fused"] += 1
             elif line.startswith("place"):

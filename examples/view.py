@@ -1,10 +1,15 @@
 #!/usr/bin/env python3
-"""view.py [FILE] [--ply OUT] [--slice OUT] [--surface OUT] [OPTION ..]   shows the last reply to `voxels` in a program's output.
+"""view.py [FILE] [--split FOLDER] [--ply OUT] [--slice OUT] [--surface OUT] [OPTION ..]   shows a program's output.
+
+--split takes the output apart into a folder: replies.txt has its lines, and each render is there as the PGM that the program wrote
+(render-1.pgm and so on; a sample is a depth in the configuration's unit) and as a PNG to look at, near surfaces bright and what shows
+none dark blue. The others show the last reply to `voxels`.
 
 --ply writes the voxels next to the surface as points with normals, --slice a PNG of a plane of voxels, --surface a PNG of the
 surface between the voxels before it and behind it (surface nets: a vertex in each cell that it crosses). Coordinates are in voxels."""
 import argparse
 import math
+import os
 import re
 import sys
 
@@ -42,19 +47,56 @@ def unit(p):
     return scaled(p, 1 / (math.sqrt(dot(p, p)) or 1))
 
 
-def without_pictures(data):
-    """A program's output without the replies to `render`, whose pictures are no text."""
-    text = b""
-    while True:
-        m = re.search(rb"^render [0-9]+\nP5\n([0-9]+) ([0-9]+)\n65535\n", data, re.M)
-        if not m:
-            return text + data
-        text, data = text + data[:m.start()], data[m.end() + 2 * int(m[1]) * int(m[2]):]
+def parts_of(data):
+    """The lines of a program's output, and its renders: the width, the height and the bytes of each PGM."""
+    lines, renders, at = [], [], 0
+    while at < len(data):
+        end = data.find(b"\n", at)
+        end = len(data) if end < 0 else end
+        try:
+            lines.append(data[at:end].decode("ascii"))
+        except UnicodeDecodeError:
+            raise BadView("the input is no output of the program")
+        at = end + 1
+        if re.fullmatch("render [0-9]+", lines[-1]):
+            head = re.match(rb"P5\n([0-9]{1,4}) ([0-9]{1,4})\n65535\n", data[at:at + 24])
+            size = head.end() + 2 * int(head[1]) * int(head[2]) if head else 0
+            if not head or len(data) < at + size:
+                raise BadView("the picture of a render is cut off or damaged")
+            renders.append((int(head[1]), int(head[2]), data[at:at + size]))
+            at += size
+    return lines, renders
 
 
-def distances_of(text):
+def shades_of(width, height, pgm):
+    """The rows of a render, near surfaces bright; a pixel of a small one is a square."""
+    raster = pgm[len(pgm) - 2 * width * height:]
+    samples = [int.from_bytes(raster[i:i + 2], "big") for i in range(0, len(raster), 2)]
+    near, far = min((s for s in samples if s), default=0), max(samples)
+
+    def shade(sample):
+        return (255 - 200 * (sample - near) // max(1, far - near),) * 3 if sample else (20, 20, 60)
+
+    side = max(1, min(16, 640 // max(width, height)))
+    rows = []
+    for v in range(height):
+        rows += [[c for s in samples[width * v:width * (v + 1)] for c in [shade(s)] * side]] * side
+    return rows
+
+
+def split(folder, lines, renders):
+    try:
+        os.makedirs(folder, exist_ok=True)
+    except OSError as why:
+        raise BadView("%s is not made: %s" % (folder, why.strerror))
+    write(os.path.join(folder, "replies.txt"), "".join(line + "\n" for line in lines).encode())
+    for n, (width, height, pgm) in enumerate(renders, 1):
+        write(os.path.join(folder, "render-%d.pgm" % n), pgm)
+        write(os.path.join(folder, "render-%d.png" % n), png.write_colours(shades_of(width, height, pgm)))
+
+
+def distances_of(lines):
     """The distance of each known voxel, by its coordinates, of the last reply to `voxels`."""
-    lines = text.split("\n")
     heads = [(n, int(m[1])) for n, m in enumerate(re.fullmatch("voxels [0-9]+ ([0-9]+)", line) for line in lines) if m]
     if not heads:
         raise BadView("there is no reply to `voxels` in the input")
@@ -199,8 +241,9 @@ def write(path, data):
 
 
 def main():
-    p = argparse.ArgumentParser(description="Shows the last reply to `voxels` in a program's output.")
+    p = argparse.ArgumentParser(description="Takes a program's output apart, and shows its last reply to `voxels`.")
     p.add_argument("file", metavar="FILE", nargs="?", help="the program's output (standard input)")
+    p.add_argument("--split", metavar="FOLDER", help="write the replies, and each render as PGM and PNG")
     p.add_argument("--ply", metavar="OUT", help="write the voxels next to the surface")
     p.add_argument("--slice", metavar="OUT", help="write a PNG of a plane of voxels")
     p.add_argument("--surface", metavar="OUT", help="write a PNG of the surface")
@@ -211,19 +254,22 @@ def main():
     p.add_argument("--width", type=int, default=480, metavar="PIXELS", help="of the surface's picture (480)")
     a = p.parse_args()
     try:
-        if not (a.ply or a.slice or a.surface):
-            raise BadView("say what to write: --ply, --slice or --surface")
+        if not (a.split or a.ply or a.slice or a.surface):
+            raise BadView("say what to write: --split, --ply, --slice or --surface")
         if not 1 <= a.width <= 2048 or not all(math.isfinite(c) and abs(c) < 1e6 for c in (*a.look, a.voxel)):
             raise BadView("a picture's width is from 1 to 2048, and every number is finite")
         if abs(a.look[0]) + abs(a.look[2]) < 1e-6:
             raise BadView("the view cannot go straight up or down")
         try:
             with open(a.file, "rb") if a.file else sys.stdin.buffer as file:
-                found = distances_of(without_pictures(file.read()).decode("ascii"))
+                lines, renders = parts_of(file.read())
         except OSError as why:
             raise BadView("%s is not read: %s" % (a.file or "standard input", why.strerror))
-        except UnicodeDecodeError:
-            raise BadView("the input is no output of the program")
+        if a.split:
+            split(a.split, lines, renders)
+        if not (a.ply or a.slice or a.surface):
+            return
+        found = distances_of(lines)
         if a.ply:
             write(a.ply, ply_of(found, a.voxel).encode())
         if a.slice:
