@@ -165,7 +165,7 @@ refuses 'tum.py refuses a PNG that is cut off' "$here/tum.py" "$t/recording" --c
 evaluated 'a render of the corner' "$t/render.scan"
 python3 "$here/view.py" "$t/out" --split "$t/split" && grep -q '^render 3$' "$t/split/replies.txt" && grep -q '^end$' "$t/split/replies.txt"
 verdict 'view.py takes an output apart' $?
-tail -c 6144 "$t/split/render-1.pgm" | cmp -s - <(tail -c +"$(($(grep -abo '^render 3$' "$t/out" | cut -d: -f1) + 24))" "$t/out" | head -c 6144)
+tail -c 6144 "$t/split/render-1.pgm" | cmp -s - <(tail -c +"$(($(grep -abo '^render 3$' "$t/out" | cut -d: -f1) + 25))" "$t/out" | head -c 6144)
 verdict 'the PGM has the samples that the program wrote' $?
 if command -v pamfile >/dev/null; then
   pamfile "$t/split/render-1.pgm" | grep -q 'PGM raw, 64 by 48  *maxval 65535'

@@ -155,11 +155,7 @@ fn heap_bytes(alloc: Global, limit: u32) -> Result<Vec<u8>, AllocError>
     Ok(text.into_bytes())
 }
 
-fn picture_bytes(
-    alloc: Global,
-    frames: u64,
-    picture: &DepthFrame,
-) -> Result<Vec<u8>, AllocError>
+fn picture_bytes(alloc: Global, frames: u64, picture: &DepthFrame) -> Result<Vec<u8>, AllocError>
     ensures { IfOk result (λ v. v.items ≡ picture_text frames picture.now) }
 {
     let mut bytes = picture_head(alloc, frames)?;
