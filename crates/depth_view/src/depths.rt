@@ -1,4 +1,4 @@
-ghost use Rattle.std.specs.Prelude.{◌≡◌, ◌≤◌, ◌+◌, ◌^◌, pos, ◌≤ℤ◌, IfOk, ◌++◌, length, map, slice_index, vec_len, vec_capacity};
+ghost use Rattle.std.specs.Prelude.{◌≡◌, ◌≤◌, ◌+◌, ◌^◌, pos, ◌≤ℤ◌, IfOk, [], ◌++◌, length, map, slice_index, vec_len, vec_capacity};
 ghost use Rattle.fixed_geom.specs.Vectors.{IsWithin};
 ghost use Rattle.depth_frame.specs.DepthMaps.{DepthMap};
 ghost use Rattle.camera.specs.declared.camera.CameraFields.{CameraFields as Fields};
@@ -31,7 +31,9 @@ impl Model for Depths {
 
 impl Depths {
     /// No depths, which takes no memory.
-    pub fn make(alloc: Global) -> Depths {
+    pub fn make(alloc: Global) -> Depths
+        ensures { result ≡ [] }
+    {
         Depths {
             depths: Vec::new(alloc),
         }

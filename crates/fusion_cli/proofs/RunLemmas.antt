@@ -1,5 +1,5 @@
 -- What a run has written so far, and what is to come.
-use Rattle.std.proofs.Common.{◌≡◌, ℕ, ◌+◌, ◌≤◌, Bool, true, false, List, [], ◌∷◌, ◌++◌, Option, None, Some, Result, Ok, Err, length, take, drop, refl, sym, ap, ◌∙◌, append_assoc, arith}
+use Rattle.std.proofs.Common.{◌≡◌, ℕ, ◌+◌, Bool, true, false, List, [], ◌∷◌, ◌++◌, Option, None, Some, Result, Ok, Err, length, take, drop, refl, sym, ap, ◌∙◌, append_assoc, arith}
 use Rattle.std.proofs.KnownBytes.{Appends-nil, Appends-trans}
 use Rattle.std.proofs.lemmas.List.{append-nil, take_at, take-append-drop}
 use Rattle.std.proofs.lemmas.List.Folds.{concat-append}
@@ -7,7 +7,7 @@ use Rattle.std.proofs.Math.Seq.{take-append-add}
 use Rattle.std.specs.List.{concat}
 use Rattle.std.specs.Io.KnownBytes.{Appends, prepend_known}
 use Rattle.scan_io.specs.Coming.{Grows, Kept, LosesFront}
-use Rattle.scan_io.specs.Reading.{Stream, stream, StaysKnown, KnownCame, Came, Errors, CountedBy, KnownReads, Reads}
+use Rattle.scan_io.specs.Reading.{Stream, stream, KnownCame, Came, CountedBy, KnownReads, Reads}
 use Rattle.scan_io.proofs.ReadingLemmas.{came_none, came_through, counted_on, grows_none, grows_more, loses_feed, loses_more}
 use Rattle.scan_lang.specs.Config.{Config}
 use Rattle.scan_lang.specs.declared.error.BadScan.{BadScan}
@@ -18,11 +18,11 @@ use Rattle.fusion_cli.specs.declared.run.Stop.TheVariants as stops
 use Rattle.scan_lang.specs.Readers.{scan_cause, scan_errors}
 use Rattle.scan_lang.specs.Entries.{is_end}
 use Rattle.scan_lang.specs.Offsets.{short}
-use Rattle.scan_lang.specs.Scan.{Begun, Read, Records, Scan, begin_of, entry_at, records_of, records_from, records_with, scan_of, refused, complete, with_entry, lines_after_config}
+use Rattle.scan_lang.specs.Scan.{Begun, Read, Records, begin_of, entry_at, records_of, records_from, records_with, scan_of, refused, complete, with_entry, lines_after_config}
 use Rattle.scan_lang.proofs.RecordLemmas.{further, records_step}
 use Rattle.fusion_core.specs.Fold.{State, start}
 use Rattle.session.specs.Fold.{after}
-use Rattle.session.specs.Output.{reply_text, replies_from, Output, output_of, output_from, output_in, all_bytes, first_bytes}
+use Rattle.session.specs.Output.{reply_text, replies_from, Output, output_of, output_from, all_bytes, first_bytes}
 use Rattle.fusion_cli.specs.Run.{Answers, CountsReads, CountsWrites, GivesEnd, IsRisen, IsRun, Told, ended, stop_of}
 
 -- ---- the outputs that are still possible
