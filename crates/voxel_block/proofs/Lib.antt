@@ -2,5 +2,6 @@ pub mod Blocks
 pub mod DistinctKeys
 pub mod KeyLaws
 pub mod Packing
+pub mod PartLemmas
 pub mod VoxelLists
 pub mod WordLaws

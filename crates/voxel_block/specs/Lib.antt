@@ -2,5 +2,6 @@ pub mod Blocks
 pub mod Chunks
 pub mod Keys
 pub mod Packing
+pub mod Parts
 pub mod Voxels
 pub mod Words

@@ -7,6 +7,7 @@ mod key;
 pub mod laws;
 mod no_memory;
 mod packed;
+mod parts;
 mod unpack;
 mod voxel;
 

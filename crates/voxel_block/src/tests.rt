@@ -231,6 +231,32 @@ fn a_block_lies_in_the_chunk_of_its_coordinates_by_eight(rt: HostRuntime) -> Res
 }
 
 #[test]
+fn a_part_is_low_where_one_of_its_voxels_is(rt: HostRuntime) -> Result<(), Fail> {
+    let mut block = Block::make(rt.alloc())?;
+    assert_eq!(rt; block.low_parts(), [false; 8], "new");
+    for (name, i, f, part) in [
+        ("the first voxel, at 0", 0, 0, Some(0)),
+        ("above 0", 0, 1, None),
+        ("the last voxel of the first part", 219, -1, Some(0)),
+        ("the first one of its half on x", 4, 0, Some(1)),
+        ("the first one of its half on y", 32, 0, Some(2)),
+        ("the halves on x and y", 36, 0, Some(3)),
+        ("the first one of its half on z", 256, 0, Some(4)),
+        ("the halves on x and z", 260, 0, Some(5)),
+        ("the halves on y and z", 288, -32767, Some(6)),
+        ("the last voxel", 511, 0, Some(7)),
+    ] {
+        block.reset();
+        block.set(i, Voxel { f, w: 1 });
+        let low = block.low_parts();
+        for p in 0..8_usize {
+            assert_eq!(rt; low[p], part == Some(p), "{name}, part {p}");
+        }
+    }
+    Ok(())
+}
+
+#[test]
 fn the_errors_read_as_words(rt: HostRuntime) -> Result<(), Fail> {
     is_shared(&NoMemory);
     assert_eq!(rt;

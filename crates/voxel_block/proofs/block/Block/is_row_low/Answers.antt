@@ -1,0 +1,6 @@
+use Rattle.voxel_block.specs.Parts.{IsLow}
+use Rattle.voxel_block.proofs.PartLemmas.{any_of_four}
+use Rattle.voxel_block.proofs.block.Block.is_row_low.Goals as goal
+
+pub returns-clause-low : goal.returns-clause-low
+returns-clause-low c = any_of_four (IsLow c.args.self.now) 1 c.args.i c.is_low.result c.is_low-2.result c.is_low-3.result c.is_low-4.result c.any.result c.is_low.ensures.low c.is_low-2.ensures.low c.is_low-3.ensures.low c.is_low-4.ensures.low c.any.ensures
