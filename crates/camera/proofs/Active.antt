@@ -19,9 +19,9 @@ use Rattle.camera.proofs.RangeLemmas.{at_most}
 use Rattle.camera.proofs.Inside.{inside_bounds, projects_inside}
 use Rattle.camera.proofs.Offsets.{voxel_step}
 
--- by how much a ray's point may move when it goes to the world and back
-abbrev pub drift : CameraFields → ℤ
-drift k = floor_div (reach_x k +ℤ reach_y k +ℤ max_depth k) (pos 1024) +ℤ pos 8
+-- what the margin of the opening test takes for the drift of a ray's point
+abbrev pub wide_drift : CameraFields → ℤ
+wide_drift k = floor_div (reach_x k +ℤ reach_y k +ℤ max_depth k) (pos 1024) +ℤ pos 8
 
 three_squares : (a b c x y z r : ℤ) → IsWithin a x → IsWithin b y → IsWithin c z → (a +ℤ b +ℤ c) ≤ℤ r → (x +ℤ y +ℤ z) ≤ℤ r
 three_squares a b c x y z r u v w h = omega (arith, ints)
@@ -58,7 +58,7 @@ not_negative : (n z : ℤ) → IsWithin n z → pos 0 ≤ℤ n
 not_negative n z w = omega (arith, ints)
 
 -- the margin is at least 14 s, and 8 more than 14 s and the drift
-pub opening_margin_large : (k : CameraFields) (x y : ℤ) → HasRanges k → IsWithin (reach_x k) x → IsWithin (reach_y k) y → ((pos 14 *ℤ k.voxel) ≤ℤ opening_margin k) × (opening_margin k ≡ pos 14 *ℤ k.voxel +ℤ drift k +ℤ pos 8) × (pos 8 ≤ℤ drift k)
+pub opening_margin_large : (k : CameraFields) (x y : ℤ) → HasRanges k → IsWithin (reach_x k) x → IsWithin (reach_y k) y → ((pos 14 *ℤ k.voxel) ≤ℤ opening_margin k) × (opening_margin k ≡ pos 14 *ℤ k.voxel +ℤ wide_drift k +ℤ pos 8) × (pos 8 ≤ℤ wide_drift k)
 opening_margin_large k x y r v w =
     let total = reach_x k +ℤ reach_y k +ℤ max_depth k in
     let t : pos 0 ≤ℤ total = summed (reach_x k) (reach_y k) k.far k.mu k.near k.voxel (not_negative (reach_x k) x v) (not_negative (reach_y k) y w) r.near r.far r.voxel r.mu in

@@ -17,7 +17,7 @@ use Rattle.camera.specs.Visibility.{IsPiercedAxis, IsPiercedAt, IsInReach, IsNea
 use Rattle.camera.proofs.RangeLemmas.{between, is_between}
 use Rattle.camera.proofs.RayLemmas.{ray_world}
 use Rattle.camera.proofs.Keys.{key_holds}
-use Rattle.camera.proofs.Active.{drift, in_sphere, depth_within, opening_margin_large}
+use Rattle.camera.proofs.Active.{wide_drift, in_sphere, depth_within, opening_margin_large}
 use Rattle.camera.proofs.RayBack.{IsPixel, pixel_bounds, ray_back}
 
 -- ---- products of a block's border
@@ -83,10 +83,10 @@ depth_between d x y top a b w = record { low = omega (arith, ints); high = omega
 
 -- the bounds of the camera points of a ray's world points
 abbrev ends_low : CameraFields → Vec3
-ends_low k = vec (neg_ℤ (reach_x k +ℤ drift k)) (neg_ℤ (reach_y k +ℤ drift k)) (pos 1 -ℤ drift k)
+ends_low k = vec (neg_ℤ (reach_x k +ℤ wide_drift k)) (neg_ℤ (reach_y k +ℤ wide_drift k)) (pos 1 -ℤ wide_drift k)
 
 abbrev ends_high : CameraFields → Vec3
-ends_high k = vec (reach_x k +ℤ drift k) (reach_y k +ℤ drift k) (max_depth k +ℤ drift k)
+ends_high k = vec (reach_x k +ℤ wide_drift k) (reach_y k +ℤ wide_drift k) (max_depth k +ℤ wide_drift k)
 
 end_between : (k : CameraFields) (m : Pose) (u v z : ℤ) → HasRanges k → IsPose m → IsPixel k u v → pos 1 ≤ℤ z → z ≤ℤ max_depth k → AreBetween (ends_low k) (ends_high k) (cam m (world m (ray k u v z)))
 end_between k m u v z r o i front back =
@@ -95,9 +95,9 @@ end_between k m u v z r o i front back =
     let b = pixel_bounds k u v z r i front back in
     let w = ray_back k m u v z r o i front back in
     record {
-      x = ends_within (reach_x k) (drift k) c.x p.x b.0 w.x;
-      y = ends_within (reach_y k) (drift k) c.y p.y b.1 w.y;
-      z = depth_between (drift k) z p.z (max_depth k) front back w.z;
+      x = ends_within (reach_x k) (wide_drift k) c.x p.x b.0 w.x;
+      y = ends_within (reach_y k) (wide_drift k) c.y p.y b.1 w.y;
+      z = depth_between (wide_drift k) z p.z (max_depth k) front back w.z;
     }
 
 -- a block that the segment between two points of a pixel's ray pierces is active
@@ -114,9 +114,9 @@ band_is_active k m u v y z p q b r h o i y1 yd z1 zd at =
     let n = near_segment m a e (centre_of s b) (ends_low k) (ends_high k) s p q o.range s0 at.divisor at.start at.finish
     (record { x = centre_off s p q a.x e.x b.x at.x; y = centre_off s p q a.y e.y b.y at.y; z = centre_off s p q a.z e.z b.z at.z })
     (end_between k m u v y r o i y1 yd) (end_between k m u v z r o i z1 zd) in
-    let more = fewer s (drift k) (opening_margin k) s0 large.1 in
-    in_sphere k c h (side (reach_x k) (drift k) s (opening_margin k) c.x more n.x) (side (reach_y k) (drift k) s (opening_margin k) c.y more n.y)
-    (depth_within (max_depth k) k.centre c.z (opening_margin k) r.centre (front (drift k) s (opening_margin k) c.z (max_depth k) more n.z) (back (drift k) s (opening_margin k) c.z (max_depth k) more n.z))
+    let more = fewer s (wide_drift k) (opening_margin k) s0 large.1 in
+    in_sphere k c h (side (reach_x k) (wide_drift k) s (opening_margin k) c.x more n.x) (side (reach_y k) (wide_drift k) s (opening_margin k) c.y more n.y)
+    (depth_within (max_depth k) k.centre c.z (opening_margin k) r.centre (front (wide_drift k) s (opening_margin k) c.z (max_depth k) more n.z) (back (wide_drift k) s (opening_margin k) c.z (max_depth k) more n.z))
   where
     fewer : (s d m : ℤ) → pos 0 ≤ℤ s → m ≡ pos 14 *ℤ s +ℤ d +ℤ pos 8 → (d +ℤ pos 13 *ℤ s) ≤ℤ m
     fewer s d m h e = omega (arith, ints)

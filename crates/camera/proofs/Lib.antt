@@ -2,6 +2,7 @@ pub mod Active
 pub mod Band
 pub mod CameraLemmas
 pub mod ChunkLemmas
+pub mod DriftLemmas
 pub mod GridLemmas
 pub mod Inside
 pub mod KeyLemmas
@@ -14,9 +15,9 @@ pub mod RangeLemmas
 pub mod RayBack
 pub mod RayLemmas
 pub mod Readings
-pub mod Visible
 pub mod SampleLemmas
 pub mod SlopeLemmas
 pub mod SphereLemmas
 pub mod VisibilityLemmas
+pub mod Visible
 pub mod Walk

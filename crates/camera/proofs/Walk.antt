@@ -16,7 +16,7 @@ use Rattle.camera.specs.Cameras.{HasRanges, HasReach, FitsSphere, max_depth, ope
 use Rattle.camera.proofs.RayLemmas.{ray_world}
 use Rattle.camera.proofs.Keys.{key_holds}
 use Rattle.camera.proofs.Offsets.{IsLocal, offset_axis_within}
-use Rattle.camera.proofs.Active.{drift, near_reach, opening_margin_large}
+use Rattle.camera.proofs.Active.{wide_drift, near_reach, opening_margin_large}
 use Rattle.camera.proofs.RayBack.{IsPixel, pixel_bounds, ray_back}
 
 -- the offset of a voxel coordinate in its block
@@ -69,12 +69,12 @@ walk_is_active k m u v z r h o i front back =
     let large = opening_margin_large k c.x c.y r b.0 b.1 in
     let w = ray_back k m u v z r o i front back in
     let n = nearest_step m s p o.range s1 in
-    near_reach k c d (drift k +ℤ pos 14 *ℤ s) r h b.0 b.1 front back
+    near_reach k c d (wide_drift k +ℤ pos 14 *ℤ s) r h b.0 b.1 front back
     (record {
-      x = joined (drift k) (pos 14 *ℤ s) c.x (cam m p).x d.x w.x n.x;
-      y = joined (drift k) (pos 14 *ℤ s) c.y (cam m p).y d.y w.y n.y;
-      z = joined (drift k) (pos 14 *ℤ s) c.z (cam m p).z d.z w.z n.z;
-    }) (fewer (pos 14 *ℤ s) (drift k) (opening_margin k) large.1)
+      x = joined (wide_drift k) (pos 14 *ℤ s) c.x (cam m p).x d.x w.x n.x;
+      y = joined (wide_drift k) (pos 14 *ℤ s) c.y (cam m p).y d.y w.y n.y;
+      z = joined (wide_drift k) (pos 14 *ℤ s) c.z (cam m p).z d.z w.z n.z;
+    }) (fewer (pos 14 *ℤ s) (wide_drift k) (opening_margin k) large.1)
   where
     joined : (d n x y z : ℤ) → IsWithin d (y -ℤ x) → IsWithin n (y -ℤ z) → IsWithin (d +ℤ n) (z -ℤ x)
     joined d n x y z v w = record { low = omega (arith, ints); high = omega (arith, ints) }

@@ -1,10 +1,10 @@
 -- A camera: its rays and its projection, the depths that it takes, the opening test and the active sphere.
-use Rattle.std.specs.Prelude.{ℕ, ◌==◌, ◌&&◌, Bool, List, [], ◌∷◌, ◌-◌, slice_index_or, ℤ, pos, ◌+ℤ◌, ◌-ℤ◌, ◌*ℤ◌, ◌≤ℤ◌, int_le, unsigned_abs, Option, None, Some, if◌then◌else◌}
+use Rattle.std.specs.Prelude.{ℕ, ◌==◌, ◌&&◌, Bool, List, [], ◌∷◌, ◌-◌, slice_index_or, ℤ, pos, ◌+ℤ◌, ◌-ℤ◌, ◌*ℤ◌, ◌≤ℤ◌, ◌<ℤ◌, int_le, unsigned_abs, Option, None, Some, if◌then◌else◌}
 use Rattle.std.specs.Int.{int_max}
 use Rattle.fixed_geom.specs.Division.{floor_div}
 use Rattle.fixed_geom.specs.declared.vector.Vec3.{Vec3}
-use Rattle.fixed_geom.specs.Vectors.{vec}
-use Rattle.fixed_geom.specs.Poses.{Pose, cam}
+use Rattle.fixed_geom.specs.Vectors.{AreWithin, minus, vec}
+use Rattle.fixed_geom.specs.Poses.{IsPose, Pose, cam, world}
 use Rattle.voxel_block.specs.declared.key.BlockKey.{BlockKey}
 use Rattle.voxel_block.specs.declared.chunk.ChunkKey.{ChunkKey}
 use Rattle.camera.specs.Grid.{centre_of, chunk_centre}
@@ -146,6 +146,15 @@ reach_z k = int_max k.centre (pos (unsigned_abs (max_depth k -ℤ k.centre)))
 -- a margin of less than two blocks, and what rounding may add
 abbrev pub opening_margin : CameraFields → ℤ
 opening_margin k = pos 14 *ℤ k.voxel +ℤ floor_div (reach_x k +ℤ reach_y k +ℤ max_depth k) (pos 1024) +ℤ pos 16
+
+-- by how much a point of a ray may move, on each axis, when it goes to the world and back
+abbrev pub drift : CameraFields → ℤ
+drift k = floor_div (reach_x k +ℤ reach_y k +ℤ max_depth k) (pos 4096) +ℤ pos 5
+
+-- each point of a ray, up to the greatest depth that a frame may touch, moves by at most d on each axis, whatever the pose
+abbrev pub DriftsWithin : CameraFields → (d : ℤ) → Type 0
+DriftsWithin k d = (m : Pose) (u v : ℕ) (z : ℤ) → IsPose m → pos u <ℤ k.width → pos v <ℤ k.height → pos 1 ≤ℤ z → z ≤ℤ max_depth k
+    → AreWithin d (minus (cam m (world m (ray k (pos u) (pos v) z))) (ray k (pos u) (pos v) z))
 
 -- z times itself
 abbrev pub square : ℤ → ℤ

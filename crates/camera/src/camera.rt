@@ -1,6 +1,6 @@
 ghost use Rattle.std.specs.Prelude.{◌≡◌, ◌^◌, ◌<◌, ◌+◌, ◌↔◌, false, pos, ◌≤ℤ◌, ◌<ℤ◌, Ok, Err, Some, IfOk, IfSome, ℕ};
 ghost use Rattle.fixed_geom.specs.Vectors.{AreWithin};
-ghost use Rattle.camera.specs.Cameras.{IsCamera, HasRanges, HasReach, FitsSphere, max_depth, depth_of, ray as ray_of, project as pixel_of, is_active, may_hold_active};
+ghost use Rattle.camera.specs.Cameras.{IsCamera, HasRanges, HasReach, FitsSphere, DriftsWithin, drift as drift_of, max_depth, depth_of, ray as ray_of, project as pixel_of, is_active, may_hold_active};
 ghost use Rattle.voxel_block.specs.declared.key.BlockKey.{BlockKey as BlockKeyOf};
 ghost use Rattle.voxel_block.specs.Chunks.{chunk_of};
 ghost use Rattle.camera.specs.Grid.{key_at, nearest as nearest_of, nearest_voxel, voxel_coordinates, point_of, centre_of, chunk_centre as chunk_centre_of};
@@ -8,7 +8,7 @@ ghost use Rattle.camera.specs.Opening.{camera_of, camera_tests, first_failing};
 ghost use Rattle.camera.specs.Visibility.{MeetsNone, is_visible};
 
 use crate::opening::{check_opening, failing_field};
-use crate::{grid, projection, ray, sphere, visibility};
+use crate::{drift, grid, projection, ray, sphere, visibility};
 use fixed_geom::{Pose, Vec3};
 use std::error::Error;
 use std::fmt;
@@ -218,6 +218,17 @@ impl Camera {
             active: sphere::is_in_sphere(&self.fields, centre),
             visible: visibility::may_see(&self.fields, centre),
         }
+    }
+
+    /// By how many micrometres a point of a ray may move, on each axis, when it is brought to the world and back, whatever
+    /// the pose. The roundings of the two ways do not cancel.
+    pub fn drift(&self) -> i64
+        ensures value { result ≡ drift_of self.now }
+        ensures drift { DriftsWithin self.now result }
+        ensures low { pos 0 ≤ℤ result }
+        ensures high { result ≤ℤ pos 12456 }
+    {
+        drift::drift(&self.fields)
     }
 
     /// The block that a world point lies in. `None` where a coordinate of the block does not fit 16 bits.

@@ -2,6 +2,7 @@
 #![tactic(auto)]
 
 mod camera;
+mod drift;
 mod grid;
 pub mod laws;
 mod opening;

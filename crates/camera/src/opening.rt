@@ -96,7 +96,7 @@ fn product(z: i64, half: i64) -> i64
     z * half
 }
 
-fn floor(a: i64, b: i64) -> i64
+pub fn floor(a: i64, b: i64) -> i64
     requires a { pos 0 ≤ℤ a }
     requires b { pos 1 ≤ℤ b }
     ensures value { result ≡ floor_div a b }
@@ -107,7 +107,7 @@ fn floor(a: i64, b: i64) -> i64
 }
 
 /// How far a point of the image may lie from the axis at depth `z`.
-fn reach(z: i64, focal: i64, size: i64, c: i64) -> i64
+pub fn reach(z: i64, focal: i64, size: i64, c: i64) -> i64
     requires z { pos 0 ≤ℤ z }
     requires z_high { z ≤ℤ pos 17000000 }
     requires focal { pos 1 ≤ℤ focal }

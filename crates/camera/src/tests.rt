@@ -337,3 +337,27 @@ fn refusals_have_words(rt: HostRuntime) -> Result<(), Fail> {
     assert_eq!(rt; bad.as_str(), "the width is out of its range");
     Ok(())
 }
+
+// A part in 4096 of the sum of the three reaches, and 5: 1020001, 1020001 and 2040000 micrometres, and then 1840762,
+// 1380572 and 3020000.
+#[test]
+fn a_point_drifts_by_less_than_a_voxel(rt: HostRuntime) -> Result<(), Fail> {
+    let depth_camera = CameraFields {
+        width: 640,
+        height: 480,
+        fx: 34406400,
+        fy: 34406400,
+        cx: 20938752,
+        cy: 15695872,
+        far: 3000000,
+        mu: 20000,
+        radius: 4000000,
+        centre: 1510000,
+        ..BASE
+    };
+    for (fields, drift) in [(BASE, 1001), (depth_camera, 1528)] {
+        let camera = Camera::make(fields).map_err(|_| Fail::from("camera"))?;
+        assert_eq!(rt; camera.drift(), drift);
+    }
+    Ok(())
+}

@@ -1,6 +1,6 @@
 -- A camera point that is brought to the world and back stays near.
 use Rattle.std.proofs.Common.{◌≡◌, sym, ap, refl, ◌∙◌, arith}
-use Rattle.std.specs.Prelude.{ℤ, pos, ◌+ℤ◌, ◌-ℤ◌, ◌*ℤ◌}
+use Rattle.std.specs.Prelude.{ℤ, pos, ◌+ℤ◌, ◌-ℤ◌, ◌*ℤ◌, ◌≤ℤ◌}
 use Rattle.std.proofs.lemmas.Int.{ints}
 use Rattle.fixed_geom.specs.Division.{IsFloor, floor_div}
 use Rattle.fixed_geom.specs.declared.vector.Vec3.{Vec3}
@@ -111,8 +111,8 @@ near_three n a b c x y z p q r u v w e = added (n *ℤ a) (n *ℤ b) (n *ℤ c) 
     added : (a b c s x y z p q r : ℤ) → IsWithin a (x -ℤ p) → IsWithin b (y -ℤ q) → IsWithin c (z -ℤ r) → s ≡ a +ℤ b +ℤ c → IsWithin s ((x +ℤ y +ℤ z) -ℤ (p +ℤ q +ℤ r))
     added a b c s x y z p q r u v w e = record { low = omega (arith, ints); high = omega (arith, ints) }
 
--- the last step, over plain numbers: n the scaled camera coordinate, c its floor, g the products' sum, v the coordinate, l what is left, m the sum of the bounds, q its floor by 1024
-back : (n c g v l m q : ℤ) → unit *ℤ n ≡ g -ℤ l → IsFloor n unit c → IsWithin (nearness *ℤ m) (g -ℤ (unit_squared *ℤ v)) → IsWithin (pos 3 *ℤ (entry_bound *ℤ unit)) l → IsFloor m (pos 1024) q → IsWithin (q +ℤ pos 8) (c -ℤ v)
+-- the last step, over plain numbers: n the scaled camera coordinate, c its floor, g the products' sum, v the coordinate, l what is left, m the sum of the bounds, q its floor by 4096
+back : (n c g v l m q : ℤ) → unit *ℤ n ≡ g -ℤ l → IsFloor n unit c → IsWithin (nearness *ℤ m) (g -ℤ (unit_squared *ℤ v)) → IsWithin (pos 3 *ℤ (entry_bound *ℤ unit)) l → IsFloor m (pos 4096) q → IsWithin (q +ℤ pos 5) (c -ℤ v)
 back n c g v l m q e f w k d = record {
   low = omega (arith, ints, f.below, f.above, d.below, d.above, w.low, w.high, k.low, k.high);
   high = omega (arith, ints, f.below, f.above, d.below, d.above, w.low, w.high, k.low, k.high);
@@ -123,14 +123,14 @@ aimed n g p q e w = record { low = omega (arith, ints); high = omega (arith, int
 
 -- one axis: u is its column, w the coordinate, and the column's products with the columns a, b, c are near their targets
 on_axis : (u t a b c v : Vec3) (k l m w p q r : ℤ) → AreWithin entry_bound u → IsNear k (dot u a) → IsNear l (dot u b) → IsNear m (dot u c) → IsWithin p v.x → IsWithin q v.y → IsWithin r v.z
-    → (k *ℤ v.x) +ℤ (l *ℤ v.y) +ℤ (m *ℤ v.z) ≡ unit_squared *ℤ w → IsWithin (floor_div (p +ℤ q +ℤ r) (pos 1024) +ℤ pos 8) (cam_axis u t (raised t a b c v) -ℤ w)
+    → (k *ℤ v.x) +ℤ (l *ℤ v.y) +ℤ (m *ℤ v.z) ≡ unit_squared *ℤ w → IsWithin (floor_div (p +ℤ q +ℤ r) (pos 4096) +ℤ pos 5) (cam_axis u t (raised t a b c v) -ℤ w)
 on_axis u t a b c v k l m w p q r small na nb nc x y z is =
     let g = (dot u a *ℤ v.x) +ℤ (dot u b *ℤ v.y) +ℤ (dot u c *ℤ v.z) in
     let n = cam_q30_axis u t (raised t a b c v) in
     let sums : IsWithin (nearness *ℤ (p +ℤ q +ℤ r)) (g -ℤ ((k *ℤ v.x) +ℤ (l *ℤ v.y) +ℤ (m *ℤ v.z))) =
     near_three nearness p q r (dot u a *ℤ v.x) (dot u b *ℤ v.y) (dot u c *ℤ v.z) (k *ℤ v.x) (l *ℤ v.y) (m *ℤ v.z) (near_part k (dot u a) v.x p na x) (near_part l (dot u b) v.y q nb y) (near_part m (dot u c) v.z r nc z) (mul_three nearness p q r) in
-    back n (cam_axis u t (raised t a b c v)) g w (left_of u a b c v) (p +ℤ q +ℤ r) (floor_div (p +ℤ q +ℤ r) (pos 1024)) (cam_q30_axis_raised u t a b c v) (floor_is n unit unit_positive)
-    (aimed (nearness *ℤ (p +ℤ q +ℤ r)) g ((k *ℤ v.x) +ℤ (l *ℤ v.y) +ℤ (m *ℤ v.z)) (unit_squared *ℤ w) is sums) (left_within u a b c v small) (floor_is (p +ℤ q +ℤ r) (pos 1024) (omega (arith, ints)))
+    back n (cam_axis u t (raised t a b c v)) g w (left_of u a b c v) (p +ℤ q +ℤ r) (floor_div (p +ℤ q +ℤ r) (pos 4096)) (cam_q30_axis_raised u t a b c v) (floor_is n unit unit_positive)
+    (aimed (nearness *ℤ (p +ℤ q +ℤ r)) g ((k *ℤ v.x) +ℤ (l *ℤ v.y) +ℤ (m *ℤ v.z)) (unit_squared *ℤ w) is sums) (left_within u a b c v small) (floor_is (p +ℤ q +ℤ r) (pos 4096) (omega (arith, ints)))
 
 only_x : (x y z : ℤ) → (unit_squared *ℤ x) +ℤ (pos 0 *ℤ y) +ℤ (pos 0 *ℤ z) ≡ unit_squared *ℤ x
 only_x x y z = omega (arith, ints)
@@ -144,9 +144,9 @@ only_z x y z = omega (arith, ints)
 turned : (k a b : ℤ) → a ≡ b → IsNear k a → IsNear k b
 turned k a b e w = record { low = omega (arith, ints); high = omega (arith, ints) }
 
--- a camera point brought to the world and back moves by at most the sum of the bounds of its coordinates over 1024, and 8
-pub round_trip : (m : Pose) (v : Vec3) (a b c : ℤ) → IsPose m → IsWithin a v.x → IsWithin b v.y → IsWithin c v.z → AreWithin (floor_div (a +ℤ b +ℤ c) (pos 1024) +ℤ pos 8) (minus (cam m (world m v)) v)
-round_trip m v a b c o x y z =
+-- a camera point brought to the world and back moves by at most the sum of the bounds of its coordinates over 4096, and 5
+pub near_round_trip : (m : Pose) (v : Vec3) (a b c : ℤ) → IsPose m → IsWithin a v.x → IsWithin b v.y → IsWithin c v.z → AreWithin (floor_div (a +ℤ b +ℤ c) (pos 4096) +ℤ pos 5) (minus (cam m (world m v)) v)
+near_round_trip m v a b c o x y z =
     let s = columns_small m o.range in
     let n = o.rotation in
     let i = column_x m in
@@ -157,3 +157,21 @@ round_trip m v a b c o x y z =
       y = on_axis j m.t i j k v (pos 0) unit_squared (pos 0) v.y a b c s.1 (turned (pos 0) (dot i j) (dot j i) (dot_turn i j) n.xy) n.yy n.yz x y z (only_y v.x v.y v.z);
       z = on_axis k m.t i j k v (pos 0) (pos 0) unit_squared v.z a b c s.2 (turned (pos 0) (dot i k) (dot k i) (dot_turn i k) n.xz) (turned (pos 0) (dot j k) (dot k j) (dot_turn j k) n.yz) n.zz x y z (only_z v.x v.y v.z);
     }
+
+-- a wider bound, of the sum over 1024, and 8
+pub round_trip : (m : Pose) (v : Vec3) (a b c : ℤ) → IsPose m → IsWithin a v.x → IsWithin b v.y → IsWithin c v.z → AreWithin (floor_div (a +ℤ b +ℤ c) (pos 1024) +ℤ pos 8) (minus (cam m (world m v)) v)
+round_trip m v a b c o x y z =
+    let near = near_round_trip m v a b c o x y z in
+    let s = a +ℤ b +ℤ c in
+    let p = floor_is s (pos 4096) (omega (arith, ints)) in
+    let q = floor_is s (pos 1024) (omega (arith, ints)) in
+    let s0 = summed a b c v.x v.y v.z x y z in
+    record { x = wider s _ _ _ s0 p q near.x; y = wider s _ _ _ s0 p q near.y; z = wider s _ _ _ s0 p q near.z }
+  where
+    summed : (a b c x y z : ℤ) → IsWithin a x → IsWithin b y → IsWithin c z → pos 0 ≤ℤ (a +ℤ b +ℤ c)
+    summed a b c x y z u v w = omega (arith, ints)
+
+    wider : (s p q d : ℤ) → pos 0 ≤ℤ s → IsFloor s (pos 4096) p → IsFloor s (pos 1024) q → IsWithin (p +ℤ pos 5) d → IsWithin (q +ℤ pos 8) d
+    wider s p q d s0 f g w =
+        let more : p ≤ℤ (q +ℤ pos 3) = omega (arith, ints, f.below, f.above, g.below, g.above) in
+        record { low = omega (arith, ints); high = omega (arith, ints) }
