@@ -10,7 +10,7 @@ use Rattle.voxel_block.specs.Keys.{key_cmp}
 use Rattle.voxel_block.proofs.KeyLaws.{exact_keys, keys_total}
 use Rattle.spatial_hash.specs.Contents.{contents}
 use Rattle.streamer.specs.Owners.{block_in}
-use Rattle.streamer.specs.Places.{Places, blocks_of, cell_of, in_heap, resident_blocks, stored_blocks}
+use Rattle.streamer.specs.Places.{Places, blocks_of, cell_of, heap_blocks, in_heap, resident_blocks, stored_blocks}
 use Rattle.voxel_block.specs.Packing.{voxels_in}
 
 -- ---- entries that a rule makes of others
@@ -58,6 +58,10 @@ still_some f (Some x) = refl
 -- the voxels of packed bytes, if there are any
 abbrev pub in_store : Option (List ℕ) → Option (List Voxel)
 in_store s = option_map voxels_in s
+
+pub get-heap : (p : Places) (q : BlockKey) → get (heap_blocks p) q ≡ in_heap p.heap (cell_of p.table q)
+unfolding heap_blocks
+get-heap p q = get-from_entries keys_total _ q ∙ get-made (block_in p.heap) (contents p.table) q
 
 pub get-blocks : (p : Places) (q : BlockKey) → get (blocks_of p) q ≡ or_else (in_heap p.heap (cell_of p.table q)) (in_store (get p.store.contents q))
 unfolding blocks_of

@@ -33,6 +33,10 @@ resident_blocks p = map (λ e. (e.0, block_in p.heap e.1)) (entries (contents p.
 abbrev pub stored_blocks : Places → List (BlockKey × List Voxel)
 stored_blocks p = map (λ e. (e.0, voxels_in e.1)) (entries p.store.contents)
 
+-- the map of the blocks in the heap
+unfoldable pub heap_blocks : Places → FinMap key_cmp (List Voxel)
+heap_blocks p = from_entries (resident_blocks p)
+
 -- the map that the places tell: each known key with its voxels
 unfoldable pub blocks_of : Places → FinMap key_cmp (List Voxel)
 blocks_of p = from_entries (resident_blocks p ++ stored_blocks p)
