@@ -5,8 +5,8 @@ use Rattle.std.specs.List.{find, range_with_len}
 use Rattle.std.proofs.lemmas.Bool.{cases_lt}
 use Rattle.std.proofs.lemmas.List.{get_or_past}
 use Rattle.std.proofs.lemmas.List.FromFn.{length-map-range_with_len, get_or-map-range_with_len}
-use Rattle.camera.specs.declared.camera.CameraFields.{CameraFields}
-use Rattle.raycaster.specs.Walk.{Scene, falls, hit, hit_sample, is_hit, point_count, point_depth, point_value, sample as sample_of, sample_at, value_at, walk_points}
+use Rattle.ray_walk.specs.Points.{point_count}
+use Rattle.raycaster.specs.Walk.{Scene, falls, hit, is_hit, point_value, value_at, walk_points}
 
 -- ---- the first number that passes a test
 
@@ -109,82 +109,3 @@ walk_value s u v j h = get_or-map-range_with_len (point_value s u v) 0 (point_co
 -- whether there is a hit at point j, by the values there and at the next point
 pub is_hit_at : (s : Scene) (u v j : ℕ) → j + 1 < point_count s.camera → is_hit (walk_points s u v) j ≡ falls (point_value s u v j) (point_value s u v (j + 1))
 is_hit_at s u v j h = λ i. falls (walk_value s u v j (omega arith) i) (walk_value s u v (j + 1) h i)
-
--- no hit comes before point j
-pub record NoneBefore (s : Scene) (u v j : ℕ) : Type 0 where
-  pub none : (i : ℕ) → i + 1 < j → is_hit (walk_points s u v) i ≡ false
-
--- none comes before the second point
-pub none_first : (s : Scene) (u v : ℕ) → NoneBefore s u v 1
-none_first s u v = record { none = λ i h. absurd (omega arith) }
-
--- one more point
-pub none_next : (s : Scene) (u v j : ℕ) → j + 1 < point_count s.camera → NoneBefore s u v (j + 1) → falls (point_value s u v j) (point_value s u v (j + 1)) ≡ false → NoneBefore s u v (j + 1 + 1)
-none_next s u v j h b out = record { none = λ i low. by i low (cases_lt i j) }
-  where
-    by : (i : ℕ) → i + 1 < j + 1 + 1 → (i < j) ⊎ (j ≤ i) → is_hit (walk_points s u v) i ≡ false
-    by i low (inl l) = b.none i (omega arith)
-    by i low (inr g) = (let same : j ≡ i = omega arith in subst (λ k. is_hit (walk_points s u v) k ≡ false) same (is_hit_at s u v j h ∙ out))
-
--- the sample, where the first hit is at point j
-pub sample_there : (s : Scene) (u v j : ℕ) → j + 1 < point_count s.camera → NoneBefore s u v (j + 1) → falls (point_value s u v j) (point_value s u v (j + 1)) ≡ true
-    → hit_sample s.camera (point_depth s.camera j) (point_value s u v j) (point_value s u v (j + 1)) ≡ sample_of s u v
-sample_there s u v j h b is =
-    let w = walk_points s u v in
-    (λ i. hit_sample s.camera (point_depth s.camera j) (sym (walk_value s u v j (omega arith)) i) (sym (walk_value s u v (j + 1) h) i))
-    ∙ ap (sample_at s.camera w) (sym (least_is w j (is_hit_at s u v j h ∙ is) (λ i low. b.none i (omega arith))))
-
--- the sample, where there is none
-pub sample_none : (s : Scene) (u v j : ℕ) → point_count s.camera ≤ j → NoneBefore s u v j → 0 ≡ sample_of s u v
-sample_none s u v j h b = ap (sample_at s.camera (walk_points s u v)) (sym (is_none (walk_points s u v) (λ i. by i (cases_lt (i + 1) j))))
-  where
-    by : (i : ℕ) → (i + 1 < j) ⊎ (j ≤ i + 1) → is_hit (walk_points s u v) i ≡ false
-    by i (inl l) = b.none i l
-    by i (inr g) = past_is_none (walk_points s u v) i (let e = walk_length s u v in omega arith)
-
--- ---- a step of the walk
-
--- what is known at point j, which follows point i: the values of both, and that no hit comes before
-pub record IsTurn (s : Scene) (u v i j : ℕ) (k : CameraFields) (z : ℤ) (front behind : Option ℤ) (r : Option ℕ) : Type 0 where
-  pub follows : j ≡ i + 1
-  pub inside : j < point_count s.camera
-  pub camera : k ≡ s.camera
-  pub depth : z ≡ point_depth s.camera i
-  pub front_is : front ≡ point_value s u v i
-  pub behind_is : behind ≡ point_value s u v j
-  pub none : NoneBefore s u v j
-  pub result : r ≡ cond (falls front behind) (Some (hit_sample k z front behind)) None
-
-module _ (s : Scene) (u v i j : ℕ) (k : CameraFields) (z : ℤ) (front behind : Option ℤ) (r : Option ℕ) where
-  values : IsTurn s u v i j k z front behind r → falls front behind ≡ falls (point_value s u v i) (point_value s u v (i + 1))
-  values t = λ x. falls (t.front_is x) ((t.behind_is ∙ ap (point_value s u v) t.follows) x)
-
-  -- the sample of a hit
-  pub turn_hit : (sample : ℕ) → IsTurn s u v i j k z front behind r → r ≡ Some sample → sample ≡ sample_of s u v
-  turn_hit x t e = by (falls front behind) refl
-    where
-      none_some : ◌≡◌ {A = Option ℕ} None (Some x) → x ≡ sample_of s u v
-      none_some e = absurd (cc)
-
-      same_some : (y : ℕ) → ◌≡◌ {A = Option ℕ} (Some y) (Some x) → x ≡ y
-      same_some y e = cc
-
-      by : (b : Bool) → falls front behind ≡ b → x ≡ sample_of s u v
-      by false is = none_some (sym (t.result ∙ ap (λ c. cond c (Some (hit_sample k z front behind)) None) is) ∙ e)
-      by true is =
-          same_some (hit_sample k z front behind) (sym (t.result ∙ ap (λ c. cond c (Some (hit_sample k z front behind)) None) is) ∙ e)
-          ∙ (λ y. hit_sample (t.camera y) (t.depth y) (t.front_is y) ((t.behind_is ∙ ap (point_value s u v) t.follows) y))
-          ∙ sample_there s u v i (subst (λ n. n < point_count s.camera) t.follows t.inside) (subst (λ n. NoneBefore s u v n) t.follows t.none) (sym (values t) ∙ is)
-
-  -- where there is none, none comes before the next point
-  pub turn_none : IsTurn s u v i j k z front behind r → r ≡ None → NoneBefore s u v (j + 1)
-  turn_none t e = by (falls front behind) refl
-    where
-      some_none : (y : ℕ) → ◌≡◌ {A = Option ℕ} (Some y) None → NoneBefore s u v (j + 1)
-      some_none y e = absurd (cc)
-
-      by : (b : Bool) → falls front behind ≡ b → NoneBefore s u v (j + 1)
-      by true is = some_none (hit_sample k z front behind) (sym (t.result ∙ ap (λ c. cond c (Some (hit_sample k z front behind)) None) is) ∙ e)
-      by false is =
-          subst (λ n. NoneBefore s u v (n + 1)) (sym t.follows)
-          (none_next s u v i (subst (λ n. n < point_count s.camera) t.follows t.inside) (subst (λ n. NoneBefore s u v n) t.follows t.none) (sym (values t) ∙ is))

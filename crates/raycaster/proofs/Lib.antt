@@ -1,5 +1,6 @@
-pub mod BlockLemmas
 pub mod HitLemmas
+pub mod LowLemmas
 pub mod PictureLemmas
-pub mod PointLemmas
 pub mod RowLemmas
+pub mod SurfaceLemmas
+pub mod TryLemmas

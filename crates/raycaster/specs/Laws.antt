@@ -8,17 +8,9 @@ use Rattle.voxel_block.specs.declared.voxel.Voxel.{Voxel}
 use Rattle.voxel_block.specs.Keys.{key_cmp}
 use Rattle.camera.specs.declared.camera.CameraFields.{CameraFields}
 use Rattle.camera.specs.Cameras.{HasRanges, IsCamera, is_active}
-use Rattle.camera.specs.Grid.{block_of_voxel, index_of_voxel, is_key}
-use Rattle.raycaster.specs.Walk.{hit, hit_depth, is_hit, picture, point_count, point_depth, scene_of, value_of, voxel_at}
-
--- a walk has the points from near to far and no other
-abbrev pub PointsReachFar : Type 0
-PointsReachFar = (k : CameraFields) (j : ℕ) → HasRanges k → (j < point_count k) ↔ (point_depth k j ≤ℤ k.far)
-
--- each point of a walk reads a voxel of an active block, whose coordinates fit 16 bits
-abbrev pub WalkIsActive : Type 0
-WalkIsActive = (k : CameraFields) (m : Pose) (u v j : ℕ) → IsCamera k → IsPose m → pos u <ℤ k.width → pos v <ℤ k.height → j < point_count k
-    → IsTrue (is_active k m (block_of_voxel (voxel_at k m u v (point_depth k j)))) × IsTrue (is_key (block_of_voxel (voxel_at k m u v (point_depth k j))))
+use Rattle.camera.specs.Grid.{block_of_voxel, index_of_voxel}
+use Rattle.ray_walk.specs.Points.{point_depth}
+use Rattle.raycaster.specs.Walk.{hit, hit_depth, is_hit, picture, scene_of, value_of}
 
 -- the map has the block of a voxel, and the voxel has this value and a weight above 0
 pub record IsKnown (m : FinMap key_cmp (List Voxel)) (c : Vec3) (f : ℤ) : Type 0 where

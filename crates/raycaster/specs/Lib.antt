@@ -1,4 +1,5 @@
 pub mod Laws
-pub mod Resident
-pub mod Rows
+pub mod Low
+pub mod Tries
+pub mod Views
 pub mod Walk

@@ -5,13 +5,13 @@ use Rattle.std.specs.List.{find, flat_map, range_with_len}
 use Rattle.std.specs.Option.{option_and_then}
 use Rattle.fixed_geom.specs.Division.{floor_div}
 use Rattle.fixed_geom.specs.declared.vector.Vec3.{Vec3}
-use Rattle.fixed_geom.specs.Poses.{Pose, world}
+use Rattle.fixed_geom.specs.Poses.{Pose}
 use Rattle.voxel_block.specs.declared.voxel.Voxel.{Voxel}
 use Rattle.voxel_block.specs.Keys.{key_cmp}
 use Rattle.depth_frame.specs.DepthMaps.{DepthMap, depth_map_of}
 use Rattle.camera.specs.declared.camera.CameraFields.{CameraFields}
-use Rattle.camera.specs.Cameras.{ray}
-use Rattle.camera.specs.Grid.{block_of_voxel, index_of_voxel, nearest_voxel}
+use Rattle.camera.specs.Grid.{block_of_voxel, index_of_voxel}
+use Rattle.ray_walk.specs.Points.{point_count, point_depth, voxel_at}
 
 -- what a picture is of: a map from keys to the 512 voxels of a block, the camera, and the pose that it looks from
 pub record Scene : Type 0 where
@@ -38,18 +38,6 @@ abbrev pub value_of : FinMap key_cmp (List Voxel) → Vec3 → Option ℤ
 value_of m c = value_in (get m (block_of_voxel c)) (index_of_voxel c)
 
 -- ---- the walk of a pixel
-
--- the number of points of each walk: their depths are those of near + s j that are at most far, where s is the voxel size
-abbrev pub point_count : CameraFields → ℕ
-point_count k = unsigned_abs (floor_div (k.far -ℤ k.near) k.voxel) + 1
-
--- the depth of point j
-abbrev pub point_depth : CameraFields → (j : ℕ) → ℤ
-point_depth k j = k.near +ℤ k.voxel *ℤ pos j
-
--- the coordinates of the voxel nearest to the point at depth z of a pixel's ray
-abbrev pub voxel_at : CameraFields → Pose → (u v : ℕ) → (z : ℤ) → Vec3
-voxel_at k p u v z = nearest_voxel k.voxel (world p (ray k (pos u) (pos v) z))
 
 -- the known value at point j
 abbrev pub point_value : Scene → (u v j : ℕ) → Option ℤ

@@ -1,14 +1,11 @@
 ghost use Rattle.std.specs.Prelude.{◌≡◌, ◌<◌, option_map};
-ghost use Rattle.std.specs.FinMap.{contains_key};
-ghost use Rattle.spatial_hash.specs.Contents.{contents};
-ghost use Rattle.streamer.specs.Places.{blocks_of};
-ghost use Rattle.raycaster.specs.Rows.{IsLookedUp};
+ghost use Rattle.raycaster.specs.Views.{IsLookedUp};
 ghost use Rattle.raycaster.specs.Walk.{known_value as known_value_of, value_in};
 
 use streamer::Rest;
 use voxel_block::{Block, BlockKey, Voxel};
 
-/// The block that was looked up last. It is remembered where the map lacks it, too.
+/// The block that was looked up last. It is remembered where the heap lacks it, too.
 #[derive(Clone, Copy)]
 pub(crate) struct LastBlock<'a> {
     key: BlockKey,
@@ -18,7 +15,6 @@ pub(crate) struct LastBlock<'a> {
 impl<'a> LastBlock<'a> {
     /// The block of a key.
     pub(crate) fn of(rest: &'a Rest, key: BlockKey) -> LastBlock<'a>
-        requires { contains_key (contents rest.now.table) key ≡ contains_key (blocks_of rest.now) key }
         ensures key { result.key ≡ key }
         ensures looked_up { IsLookedUp rest.now result }
     {
@@ -31,7 +27,6 @@ impl<'a> LastBlock<'a> {
     /// The block of another key. It is looked up only where the key differs.
     pub(crate) fn next(self, rest: &'a Rest, key: BlockKey) -> LastBlock<'a>
         requires looked_up { IsLookedUp rest.now self }
-        requires resident { contains_key (contents rest.now.table) key ≡ contains_key (blocks_of rest.now) key }
         ensures key { result.key ≡ key }
         ensures looked_up { IsLookedUp rest.now result }
     {

@@ -1,17 +1,7 @@
 //! Theorems on their own. A law is a clause of a public function, since only what a clause states is
 //! proved.
 
-ghost use Rattle.raycaster.specs.Laws.{ActiveBlocksDecide, HitIsBetween, HitIsLeast, KnownIsWeighed, NoHitIsNone, PointsReachFar, WalkIsActive};
-
-/// A walk has the points from `near` to `far` and no other. The body is empty: the clause is the theorem.
-pub fn points_reach_far()
-    ensures { PointsReachFar }
-{}
-
-/// Each point of a walk reads a voxel of an active block, whose coordinates fit 16 bits.
-pub fn walk_is_active()
-    ensures { WalkIsActive }
-{}
+ghost use Rattle.raycaster.specs.Laws.{ActiveBlocksDecide, HitIsBetween, HitIsLeast, KnownIsWeighed, NoHitIsNone};
 
 /// A value is known exactly where the block is in the map and the voxel's weight is above 0.
 pub fn known_is_weighed()

@@ -1,13 +1,13 @@
 //! Renders: the picture that a camera would take of a map, as a depth map.
 #![tactic(auto)]
 
-mod division;
 mod last_block;
 pub mod laws;
+mod low;
 mod picture;
-mod points;
-mod row;
 mod surface;
+mod trials;
+mod view;
 
 pub use picture::{render, render_row};
 

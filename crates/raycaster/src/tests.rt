@@ -74,9 +74,6 @@ fn picture_of(
     for voxel in voxels {
         observe(&mut rest, *voxel);
     }
-    if rest.store().len() > 0 {
-        return Err(Fail::from("a block is stored"));
-    }
     Ok(render(alloc, &camera, &pose, &rest)?)
 }
 

@@ -17,15 +17,15 @@ use Rattle.voxel_block.specs.Blocks.{new_block}
 use Rattle.spatial_hash.specs.Contents.{contents}
 use Rattle.voxel_block.specs.Packing.{packed, voxels_in}
 use Rattle.streamer.specs.Owners.{block_in, owner_at, voxels_of}
-use Rattle.streamer.specs.Places.{IsPlaced, Places, blocks_of, cell_of}
-use Rattle.streamer.proofs.Blocks.{get-resident, get-stored, has-blocks, in_store as unpacked}
+use Rattle.streamer.specs.Places.{IsPlaced, Places, blocks_of, cell_of, heap_blocks, in_heap}
+use Rattle.streamer.proofs.Blocks.{get-heap, get-resident, get-stored, has-blocks, in_store as unpacked}
 use Rattle.streamer.proofs.Keyed.{some_of, the_same}
 use Rattle.streamer.proofs.Moves.{same_blocks, same_places}
 use Rattle.streamer.proofs.Ways.{stored_is_out}
 use Rattle.block_heap.specs.Cells.{Cells as Heap}
 use Rattle.spatial_hash.specs.Table.{Table}
 use Rattle.fixed_geom.specs.Poses.{Pose}
-use Rattle.raycaster.specs.Resident.{HoldsActive}
+use Rattle.raycaster.specs.Laws.{AgreeOnActive}
 use Rattle.session.specs.Rooms.{StaysPut}
 use Rattle.session.specs.Answers.{SessionView, state_of}
 use Rattle.session.specs.Fold.{is_active_last, place_in, settings_of}
@@ -123,11 +123,22 @@ settled_put c p r n last put s = record {
 
 -- ---- pictures
 
--- with a last frame each of its active blocks is resident
-pub holds_active : (h : SessionView) (pose : Pose) → IsSettled h → h.last ≡ Some pose → HoldsActive h.config.camera pose h.places
-holds_active h pose s last = record {
-  resident = λ b on. s.active b ∙ ap (λ (l : Option Pose). contains_key (blocks_of h.places) b && is_active_last h.config.camera l b) last ∙ ap (λ t. contains_key (blocks_of h.places) b && t) on ∙ and-true (contains_key (blocks_of h.places) b);
-}
+-- with a last frame the active blocks are those of the heap
+pub heap_agrees : (h : SessionView) (pose : Pose) → IsSettled h → h.last ≡ Some pose → AgreeOnActive h.config.camera pose (heap_blocks h.places) (blocks_of h.places)
+heap_agrees h pose s last = record { same = λ b on. get-heap h.places b ∙ by b on (cell_of h.places.table b) refl }
+  where
+    resident : (b : BlockKey) → IsTrue (is_active_at h.config.camera pose b) → contains_key (contents h.places.table) b ≡ contains_key (blocks_of h.places) b
+    resident b on =
+        s.active b ∙ ap (λ (l : Option Pose). contains_key (blocks_of h.places) b && is_active_last h.config.camera l b) last ∙ ap (λ t. contains_key (blocks_of h.places) b && t) on
+        ∙ and-true (contains_key (blocks_of h.places) b)
+
+    gone : (o : Option (List Voxel)) → is_some o ≡ false → None ≡ o
+    gone None e = refl
+    gone (Some x) e = absurd (cc)
+
+    by : (b : BlockKey) → IsTrue (is_active_at h.config.camera pose b) → (c : Option ℕ) → cell_of h.places.table b ≡ c → in_heap h.places.heap (cell_of h.places.table b) ≡ get (blocks_of h.places) b
+    by b on None e = ap (in_heap h.places.heap) e ∙ gone (get (blocks_of h.places) b) (sym (resident b on) ∙ ap is_some e)
+    by b on (Some n) e = ap (in_heap h.places.heap) e ∙ sym (get-resident h.places b n e)
 
 -- ---- places
 

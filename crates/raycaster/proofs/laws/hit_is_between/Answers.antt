@@ -1,4 +1,4 @@
-use Rattle.raycaster.proofs.PointLemmas.{hit_between}
+use Rattle.raycaster.proofs.SurfaceLemmas.{hit_between}
 use Rattle.raycaster.proofs.laws.hit_is_between.Goals as goal
 
 pub returns : goal.returns

@@ -1,7 +1,9 @@
-use Rattle.std.proofs.Common.{◌≡◌, ℕ, ◌<◌, get_or}
-use Rattle.streamer.specs.Places.{blocks_of}
-use Rattle.raycaster.specs.Walk.{sample, scene_of}
+use Rattle.raycaster.specs.Views.{IsLookedUp, scene_of_view}
+use Rattle.raycaster.proofs.RowLemmas.{HasSamples}
 use Rattle.raycaster.proofs.picture.render_row.Given as goal
 
 abbrev pub invariant-loop-u : goal.invariant-loop-u
-invariant-loop-u l = (k : ℕ) → k < l.u → get_or l.out k 0 ≡ sample (scene_of l.camera l.pose (blocks_of l.rest)) k l.v
+invariant-loop-u l = record {
+  samples : HasSamples (scene_of_view l.view) l.v l.out l.u;
+  block : IsLookedUp l.view.rest.now l.block;
+}

@@ -3,15 +3,18 @@ use Rattle.std.specs.Prelude.{ℤ, pos, ◌-ℤ◌, ◌*ℤ◌, ◌≤ℤ◌}
 use Rattle.std.proofs.lemmas.Int.{ints, to_z-of_z}
 use mir.Syntax.{w64}
 use Rattle.fixed_geom.specs.Division.{floor_div}
-use Rattle.raycaster.proofs.PointLemmas.{offset_high, offset_low, read, read_fall}
+use Rattle.ray_walk.proofs.PointLemmas.{read}
+use Rattle.raycaster.proofs.SurfaceLemmas.{offset_high, offset_low, product_is, read_fall}
 use Rattle.raycaster.proofs.surface.offset.Goals as goal
 
-is : (c : goal.After-floor_div) → read c.floor_div.result ≡ floor_div (c.args.size *ℤ c.args.f) (c.args.f -ℤ c.args.g)
+is : (c : goal.After-from) → read c.from.result ≡ floor_div (c.args.size *ℤ c.args.f) (c.args.f -ℤ c.args.g)
 is c =
     let r = c.requires in
-    let product : read c.times.result ≡ c.args.size *ℤ c.args.f = to_z-of_z w64 c.times.result (record { sfits = c.times.type_inv }) ∙ c.times.ensures.value ∙ (λ i. to_z-of_z w64 c.args.size c.ranges.size i *ℤ to_z-of_z w64 c.args.f c.ranges.f i) in
-    to_z-of_z w64 c.floor_div.result (record { sfits = c.floor_div.type_inv }) ∙ c.floor_div.ensures
-    ∙ (λ i. floor_div (product i) (read_fall c.args.f c.args.g r.front r.front_high r.behind r.behind_low i))
+    let size = c.whole.ensures ∙ to_z-of_z w64 c.args.size c.ranges.size in
+    let f = c.whole-2.ensures ∙ to_z-of_z w64 c.args.f c.ranges.f in
+    let product = product_is c.whole.result c.whole-2.result c.times.result c.args.size c.args.f c.times.ensures size f in
+    let fall = c.whole-3.ensures ∙ read_fall c.args.f c.args.g r.front r.front_high r.behind r.behind_low in
+    to_z-of_z w64 c.from.result (record { sfits = c.from.type_inv }) ∙ c.from.ensures ∙ c.divided.ensures ∙ (λ i. floor_div (product i) (fall i))
 
 pub returns-clause-value : goal.returns-clause-value
 returns-clause-value = is

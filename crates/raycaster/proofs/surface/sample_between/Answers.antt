@@ -5,7 +5,8 @@ use mir.Syntax.{w64}
 use Rattle.fixed_geom.specs.Division.{floor_div}
 use Rattle.camera.proofs.Readings.{fields_read}
 use Rattle.raycaster.specs.Walk.{hit_depth, sample_of_depth}
-use Rattle.raycaster.proofs.PointLemmas.{read, read_depth}
+use Rattle.ray_walk.proofs.PointLemmas.{read}
+use Rattle.raycaster.proofs.SurfaceLemmas.{read_depth}
 use Rattle.raycaster.proofs.surface.sample_between.Goals as goal
 
 pub returns : goal.returns

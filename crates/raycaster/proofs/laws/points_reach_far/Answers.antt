@@ -1,5 +1,0 @@
-use Rattle.raycaster.proofs.PointLemmas.{depth_far, far_point}
-use Rattle.raycaster.proofs.laws.points_reach_far.Goals as goal
-
-pub returns : goal.returns
-returns c = λ k j r. (depth_far k j r, far_point k j r)
