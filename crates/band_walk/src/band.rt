@@ -9,7 +9,8 @@ use depth_frame::DepthFrame;
 use fixed_geom::Pose;
 
 /// A frame's truncation band: the frame with the camera that took it and the pose that it was taken from, the slopes of
-/// the camera's pixels, the raw samples that it takes, and the reciprocals by which the points of a segment and their blocks are made.
+/// the camera's pixels, the raw samples that it takes, and the reciprocals by which the points of a segment and their
+/// blocks are made.
 #[derive(Drop)]
 pub struct Band<'a> {
     pub camera: &'a Camera,
