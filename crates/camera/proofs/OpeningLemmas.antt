@@ -48,6 +48,10 @@ plus_one q p ql qh pl ph =
     next : (q : ℤ) → pos 0 ≤ℤ q → q ≤ℤ pos 2282258432000000 → to_z w64 (of_z w64 (to_z w64 (of_z w64 q) +ℤ pos 1)) ≡ q +ℤ pos 1
     next q l h = rw (same64 q (omega (arith, ints)) (omega (arith, ints))) (same64 (q +ℤ pos 1) (omega (arith, ints)) (omega (arith, ints)))
 
+-- the sum of three distances
+pub distances_read : (x y z : ℤ) → pos 0 ≤ℤ x → x ≤ℤ pos 17000000 → pos 0 ≤ℤ y → y ≤ℤ pos 17000000 → pos 0 ≤ℤ z → z ≤ℤ pos 17000000 → read (read (read x +ℤ read y) +ℤ read z) ≡ x +ℤ y +ℤ z
+distances_read x y z xl xh yl yh zl zh = omega (arith, ints)
+
 -- sums of two and of three squares
 sum_fits : (a b : ℤ) → pos 0 ≤ℤ a → a ≤ℤ pos 100000000000000000 → pos 0 ≤ℤ b → b ≤ℤ pos 100000000000000000 → SFits w64 (a +ℤ b)
 sum_fits a b al ah bl bh = search (rules, ints)

@@ -4,7 +4,7 @@ ghost use Rattle.fixed_geom.specs.Division.{floor_div};
 ghost use Rattle.camera.specs.Cameras.{HasRanges, HasReach, drift as drift_of};
 
 use crate::camera::CameraFields;
-use crate::opening::{floor, reach};
+use crate::opening::{reach, rounding};
 use crate::shared::max_depth;
 
 /// The drift of the points of a camera's rays, in micrometres.
@@ -33,19 +33,5 @@ fn drift_by(x: i64, y: i64, z: i64) -> i64
     ensures low { pos 0 ≤ℤ result }
     ensures high { result ≤ℤ pos 12456 }
 {
-    floor(sum(x, y, z), 4096) + 5
-}
-
-fn sum(x: i64, y: i64, z: i64) -> i64
-    requires x { pos 0 ≤ℤ x }
-    requires x_high { x ≤ℤ pos 17000000 }
-    requires y { pos 0 ≤ℤ y }
-    requires y_high { y ≤ℤ pos 17000000 }
-    requires z { pos 0 ≤ℤ z }
-    requires z_high { z ≤ℤ pos 17000000 }
-    ensures value { result ≡ x +ℤ y +ℤ z }
-    ensures low { pos 0 ≤ℤ result }
-    ensures high { result ≤ℤ pos 51000000 }
-{
-    x + y + z
+    rounding(x, y, z, 4096) + 5
 }

@@ -96,7 +96,7 @@ fn product(z: i64, half: i64) -> i64
     z * half
 }
 
-pub fn floor(a: i64, b: i64) -> i64
+fn floor(a: i64, b: i64) -> i64
     requires a { pos 0 ≤ℤ a }
     requires b { pos 1 ≤ℤ b }
     ensures value { result ≡ floor_div a b }
@@ -133,19 +133,20 @@ fn reach_z(max_depth: i64, centre: i64) -> i64
     centre.max((max_depth - centre).abs())
 }
 
-/// What rounding may add to a margin.
-fn rounding(x: i64, y: i64, z: i64) -> i64
+/// What rounding may add to a margin: a part of the sum of the distances on the three axes, by floor.
+pub fn rounding(x: i64, y: i64, z: i64, divisor: i64) -> i64
     requires x { pos 0 ≤ℤ x }
     requires x_high { x ≤ℤ pos 17000000 }
     requires y { pos 0 ≤ℤ y }
     requires y_high { y ≤ℤ pos 17000000 }
     requires z { pos 0 ≤ℤ z }
     requires z_high { z ≤ℤ pos 17000000 }
-    ensures value { result ≡ floor_div (x +ℤ y +ℤ z) (pos 1024) }
+    requires divisor { pos 1 ≤ℤ divisor }
+    ensures value { result ≡ floor_div (x +ℤ y +ℤ z) divisor }
     ensures low { pos 0 ≤ℤ result }
     ensures high { result ≤ℤ pos 51000000 }
 {
-    floor(x + y + z, 1024)
+    floor(x + y + z, divisor)
 }
 
 fn opening_margin(voxel: i64, rounding: i64) -> i64
@@ -219,7 +220,7 @@ fn fits_sphere(k: CameraFields, x: i64, y: i64) -> bool
     ensures { result ≡ fits_sphere_of k }
 {
     let z = max_depth(&k);
-    let m = opening_margin(k.voxel, rounding(x, y, z));
+    let m = opening_margin(k.voxel, rounding(x, y, z, 1024));
     is_in_sphere(x, y, reach_z(z, k.centre), m, k.radius)
 }
 

@@ -8,6 +8,7 @@ pub mod PoseTests
 pub mod ProductFloors
 pub mod Raised
 pub mod RoundTrip
+pub mod RowProducts
 pub mod Segments
 pub mod SignedProducts
 pub mod Sizes

@@ -10,6 +10,7 @@ mod near;
 pub mod pose;
 mod products;
 pub mod quotients;
+pub mod row_products;
 mod spelling;
 #[cfg(test)]
 mod tests;
@@ -20,4 +21,5 @@ pub use decimal::{BadNumber, read_decimal};
 pub use division::{floor_div, round_div};
 pub use pose::{BadPose, Pose, PoseRows};
 pub use quotients::{quotient, reciprocal};
+pub use row_products::{dot, micrometres};
 pub use vector::Vec3;

@@ -161,6 +161,41 @@ fn near_points_and_cam_q30(rt: HostRuntime) -> Result<(), BadPose> {
 }
 
 #[test]
+fn row_products_and_their_floors(rt: HostRuntime) {
+    // The largest entry is 2^30 + 2^17, and the furthest point has coordinates of 2^29.
+    let most = (1 << 30) + (1 << 17);
+    let large = Vec3 {
+        x: most,
+        y: most,
+        z: most,
+    };
+    let far = Vec3 {
+        x: 1 << 29,
+        y: 1 << 29,
+        z: 1 << 29,
+    };
+    let row = Vec3 {
+        x: ONE,
+        y: -ONE / 2,
+        z: 3,
+    };
+    let point = Vec3 { x: 5, y: 3, z: -7 };
+    assert_eq!(rt; dot(large, far), 3 * ((1 << 59) + (1 << 46)));
+    // 3.5 micrometres less 21 units.
+    assert_eq!(rt; dot(row, point), 3_758_096_363);
+    for (q30, want) in [
+        (3_758_096_363, 3),
+        (ONE, 1),
+        (ONE - 1, 0),
+        (-1, -1),
+        (i64::MAX, 8_589_934_591),
+        (i64::MIN, -8_589_934_592),
+    ] {
+        assert_eq!(rt; micrometres(q30), want);
+    }
+}
+
+#[test]
 fn quotients_are_floors(rt: HostRuntime) {
     let most: i128 = 1 << 125;
     assert_eq!(rt; floor_div(7, 2), 3);

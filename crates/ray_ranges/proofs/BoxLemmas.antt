@@ -1,18 +1,12 @@
 -- The box of a cube holds each point whose nearest voxel is in the cube.
 use Rattle.std.proofs.Common.{◌≡◌, ℕ, ◌≤◌, true, false, cond, Option, Some, None, refl, sym, ◌∙◌, arith}
-use Rattle.std.specs.Prelude.{ℤ, pos, ◌+ℤ◌, ◌*ℤ◌, ◌≤ℤ◌, int_lt, IfSome}
+use Rattle.std.specs.Prelude.{ℤ, pos, ◌*ℤ◌, ◌≤ℤ◌, int_lt, IfSome}
 use Rattle.std.specs.Int.{int_max, int_min}
 use Rattle.std.proofs.lemmas.Int.{ints, clamps}
 use Rattle.fixed_geom.specs.declared.vector.Vec3.{Vec3}
 use Rattle.fixed_geom.specs.Poses.{Pose, IsPose, column_x, column_y, column_z, world}
-use Rattle.fixed_geom.proofs.Whole.{mul_order}
 use Rattle.camera.specs.declared.camera.CameraFields.{CameraFields}
-use Rattle.camera.specs.Cameras.{DriftsWithin, HasRanges, HasReach, max_depth, half, reach_axis, reach_x, reach_y, ray}
-use Rattle.camera.proofs.RayLemmas.{half_covers}
-use Rattle.fixed_geom.specs.Division.{IsFloor, floor_div}
-use Rattle.fixed_geom.specs.Vectors.{IsWithin}
-use Rattle.fixed_geom.proofs.Floors.{floor_is, floor_above}
-use Rattle.camera.proofs.RayBack.{pixel_of, ray_back}
+use Rattle.camera.specs.Cameras.{DriftsWithin, HasRanges, ray}
 use Rattle.ray_ranges.specs.declared.span.Span.{Span}
 use Rattle.ray_ranges.specs.declared.boxes.PixelBox.{PixelBox}
 use Rattle.ray_walk.specs.Points.{point_depth}

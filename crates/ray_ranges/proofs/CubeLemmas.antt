@@ -11,7 +11,7 @@ use Rattle.fixed_geom.proofs.Floors.{floor_is}
 use Rattle.fixed_geom.proofs.Dots.{within_product, unit_positive}
 use Rattle.camera.specs.Grid.{nearest_axis, nearest_voxel}
 use Rattle.ray_ranges.specs.Cubes.{IsFrom, IsInCube}
-use Rattle.ray_ranges.specs.Boxes.{IsIn, middle_on, middle_of, size_of, reach_of, two_units}
+use Rattle.ray_ranges.specs.Boxes.{IsIn, middle_axis, middle_of, size_of, reach_of, two_units}
 
 -- ---- the way from the middle of the cube
 
@@ -34,7 +34,7 @@ middle_is s l e = joined (s *ℤ (pos 2 *ℤ l +ℤ e -ℤ pos 1)) (s *ℤ (pos 
     joined a b c d f g s p q r t = omega (arith, ints)
 
 -- on one axis: twice the way from the translation t to the point p is within s e of the doubled middle, if the nearest voxel n is one of e from l on
-pub near_middle : (s p t l e n : ℤ) → pos 1 ≤ℤ s → IsFloor (pos 2 *ℤ p +ℤ s) (pos 2 *ℤ s) n → IsFrom l (l +ℤ e -ℤ pos 1) n → IsWithin (s *ℤ e) (pos 2 *ℤ (p -ℤ t) -ℤ middle_on s l e t)
+pub near_middle : (s p t l e n : ℤ) → pos 1 ≤ℤ s → IsFloor (pos 2 *ℤ p +ℤ s) (pos 2 *ℤ s) n → IsFrom l (l +ℤ e -ℤ pos 1) n → IsWithin (s *ℤ e) (pos 2 *ℤ (p -ℤ t) -ℤ middle_axis s l e t)
 near_middle s p t l e n s1 is at =
     let x = n -ℤ l in
     let same : l +ℤ x ≡ n = omega (arith, ints) in

@@ -13,7 +13,7 @@ use Rattle.fixed_geom.proofs.Dots.{within_product}
 use Rattle.fixed_geom.proofs.Floors.{floor_is, floor_above, floor_below}
 use Rattle.fixed_geom.proofs.Whole.{mul_order, mul_turn, mul_neg}
 use Rattle.ray_ranges.specs.declared.span.Span.{Span}
-use Rattle.ray_ranges.specs.Boxes.{span, IsSpanWithin, middle_on, pixel_by, first_pixel, last_pixel, middle_of, reach_of}
+use Rattle.ray_ranges.specs.Boxes.{span, IsSpanWithin, middle_axis, pixel_by, depth_by_sign, middle_of, reach_of}
 use Rattle.ray_ranges.proofs.CubeLemmas.{middle_is}
 
 -- numbers within 9 times 10^18 fit 64 bits, and stay themselves
@@ -40,24 +40,6 @@ product_in m n k a b v w le = plain (a *ℤ b) (m * n) (within_product (pos m) (
 
 pub same_span : (a b x y : ℤ) → a ≡ x → b ≡ y → span a b ≡ span x y
 same_span a b x y e f = rw (e, f) refl
-
--- ---- the product of a column with a middle
-
-pub two_fit : (p q : ℤ) → IsWithin (pos 1152921504606846976) p → IsWithin (pos 1152921504606846976) q → SFits w64 (to_z w64 (of_z w64 p) +ℤ to_z w64 (of_z w64 q))
-two_fit p q v w = omega (arith, ints)
-
-pub three_fit : (p q r : ℤ) → IsWithin (pos 1152921504606846976) p → IsWithin (pos 1152921504606846976) q → IsWithin (pos 1152921504606846976) r → SFits w64 (to_z w64 (of_z w64 (to_z w64 (of_z w64 p) +ℤ to_z w64 (of_z w64 q))) +ℤ to_z w64 (of_z w64 r))
-three_fit p q r u v w = omega (arith, ints)
-
-pub three_sum : (p q r : ℤ) → IsWithin (pos 1152921504606846976) p → IsWithin (pos 1152921504606846976) q → IsWithin (pos 1152921504606846976) r → to_z w64 (of_z w64 (to_z w64 (of_z w64 (to_z w64 (of_z w64 p) +ℤ to_z w64 (of_z w64 q))) +ℤ to_z w64 (of_z w64 r))) ≡ (p +ℤ q) +ℤ r
-three_sum p q r u v w = omega (arith, ints)
-
-pub three_within : (p q r : ℤ) → IsWithin (pos 1152921504606846976) p → IsWithin (pos 1152921504606846976) q → IsWithin (pos 1152921504606846976) r → IsWithin (pos 4611686018427387904) ((p +ℤ q) +ℤ r)
-three_within p q r u v w = record { low = omega (arith, ints); high = omega (arith, ints) }
-
--- the product of an entry and a coordinate of a middle
-pub product_is : (p a b : ℤ) → IsWithin entry_bound a → IsWithin (pos 536870912) b → p ≡ to_z w64 (of_z w64 a) *ℤ to_z w64 (of_z w64 b) → p ≡ a *ℤ b
-product_is p a b v w e = e ∙ rw (read 1073872896 a v (lit≤ tt), read 536870912 b w (lit≤ tt)) refl
 
 -- ---- the sizes of a column's entries
 
@@ -132,7 +114,7 @@ middle_less p t v w = omega (arith, ints)
 pub middle_fits : (p t : ℤ) → IsWithin (pos 60000000000) p → IsWithin translation_bound t → SFits w64 (to_z w64 (of_z w64 p) -ℤ to_z w64 (of_z w64 (pos 2 *ℤ to_z w64 (of_z w64 t))))
 middle_fits p t v w = omega (arith, ints)
 
-pub middle_within : (s l e t : ℤ) → pos 1 ≤ℤ s → s ≤ℤ pos 100000 → IsWithin (pos 154000000) (s *ℤ l) → pos 1 ≤ℤ e → e ≤ℤ pos 8 → IsWithin translation_bound t → IsWithin (pos 536870912) (middle_on s l e t)
+pub middle_within : (s l e t : ℤ) → pos 1 ≤ℤ s → s ≤ℤ pos 100000 → IsWithin (pos 154000000) (s *ℤ l) → pos 1 ≤ℤ e → e ≤ℤ pos 8 → IsWithin translation_bound t → IsWithin (pos 536870912) (middle_axis s l e t)
 middle_within s l e t s1 s5 w e1 e8 far = plain (s *ℤ (pos 2 *ℤ l +ℤ e -ℤ pos 1)) (s *ℤ l) (s *ℤ e) s t (middle_is s l e) w (product_in 100000 8 800000 s e (size_in s s1 s5) (side_in e e1 e8) (lit≤ tt)) (size_in s s1 s5) far
   where
     plain : (m sl se s t : ℤ) → m ≡ (pos 2 *ℤ sl) +ℤ se -ℤ s → IsWithin (pos 154000000) sl → IsWithin (pos 800000) se → IsWithin (pos 100000) s → IsWithin translation_bound t → IsWithin (pos 536870912) (m -ℤ pos 2 *ℤ t)
@@ -181,27 +163,34 @@ quotient_in n a z w z1 =
 pub quotient_more : (q c : ℤ) → IsWithin (pos 4611686020574871552) q → IsWithin (pos 134217728) c → to_z w64 (of_z w64 (to_z w64 (of_z w64 q) +ℤ to_z w64 (of_z w64 c))) ≡ q +ℤ c
 quotient_more q c v w = omega (arith, ints)
 
-pub focal_in : (f : ℤ) → pos 1 ≤ℤ f → f ≤ℤ pos 1073741824 → IsWithin (pos 1073741824) f
-focal_in f h k = record { low = omega (arith, ints); high = omega (arith, ints) }
-
 -- a pixel, as the machine reads its numbers
-pub pixel_read : (r c a z b : ℤ) → r ≡ pixel_by (to_z w64 (of_z w64 c)) (to_z w64 (of_z w64 a)) (to_z w64 (of_z w64 z)) → to_z w64 (of_z w64 c) ≡ c → to_z w64 (of_z w64 a) ≡ b → to_z w64 (of_z w64 z) ≡ z → r ≡ pixel_by c b z
-pixel_read r c a z b e f g h = e ∙ rw (f, g, h) refl
+pub pixel_read : (r c a z b d : ℤ) → r ≡ pixel_by (to_z w64 (of_z w64 c)) (to_z w64 (of_z w64 a)) (to_z w64 (of_z w64 z)) → to_z w64 (of_z w64 c) ≡ c → to_z w64 (of_z w64 a) ≡ b → to_z w64 (of_z w64 z) ≡ d → r ≡ pixel_by c b d
+pixel_read r c a z b d e f g h = e ∙ rw (f, g, h) refl
+
+-- and its depth
+pub depth_read : (d x a b : ℤ) → IsWithin (pos 4294967296) d → d ≡ depth_by_sign (to_z w64 (of_z w64 x)) (to_z w64 (of_z w64 a)) (to_z w64 (of_z w64 b)) → to_z w64 (of_z w64 x) ≡ x → to_z w64 (of_z w64 a) ≡ a → to_z w64 (of_z w64 b) ≡ b → to_z w64 (of_z w64 d) ≡ depth_by_sign x a b
+depth_read d x a b w e f g h = read 4294967296 d w (lit≤ tt) ∙ e ∙ rw (f, g, h) refl
+
+pub deeper_front : (low high : ℤ) → IsWithin (pos 4294967296) high → pos 1 ≤ℤ low → low ≤ℤ high → pos 1 ≤ℤ to_z w64 (of_z w64 high)
+deeper_front low high w front some = omega (arith, ints)
 
 pub less_one : (t : ℤ) → IsWithin (pos 4611686019501129728) t → to_z w64 (of_z w64 (to_z w64 (of_z w64 t) -ℤ pos 1)) ≡ t -ℤ pos 1
 less_one t w = omega (arith, ints)
 
+pub less_one_fits : (t : ℤ) → IsWithin (pos 4611686019501129728) t → SFits w64 (to_z w64 (of_z w64 t) -ℤ pos 1)
+less_one_fits t w = omega (arith, ints)
+
+pub less_one_within : (t : ℤ) → IsWithin (pos 4611686019501129728) t → IsWithin (pos 4611686020574871552) (to_z w64 (of_z w64 (to_z w64 (of_z w64 t) -ℤ pos 1)))
+less_one_within t w = record { low = omega (arith, ints); high = omega (arith, ints) }
+
 pub plus_one : (x : ℤ) → IsWithin (pos 4294967296) x → to_z w64 (of_z w64 (to_z w64 (of_z w64 x) +ℤ pos 1)) ≡ x +ℤ pos 1
 plus_one x w = omega (arith, ints)
 
+pub width_fits : (w : ℤ) → IsWithin (pos 2048) w → SFits w64 (to_z w64 (of_z w64 w) -ℤ pos 1)
+width_fits w i = omega (arith, ints)
+
 pub width_less : (w : ℤ) → IsWithin (pos 2048) w → to_z w64 (of_z w64 (to_z w64 (of_z w64 w) -ℤ pos 1)) ≡ w -ℤ pos 1
 width_less w i = omega (arith, ints)
-
-pub first_read : (r f c x : ℤ) (s : Span) → r ≡ first_pixel (to_z w64 (of_z w64 f)) (to_z w64 (of_z w64 c)) (to_z w64 (of_z w64 x)) s → to_z w64 (of_z w64 f) ≡ f → to_z w64 (of_z w64 c) ≡ c → to_z w64 (of_z w64 x) ≡ x → r ≡ first_pixel f c x s
-first_read r f c x s e g h i = e ∙ rw (g, h, i) refl
-
-pub last_read : (r f c x : ℤ) (s : Span) → r ≡ last_pixel (to_z w64 (of_z w64 f)) (to_z w64 (of_z w64 c)) (to_z w64 (of_z w64 x)) s → to_z w64 (of_z w64 f) ≡ f → to_z w64 (of_z w64 c) ≡ c → to_z w64 (of_z w64 x) ≡ x → r ≡ last_pixel f c x s
-last_read r f c x s e g h i = e ∙ rw (g, h, i) refl
 
 pub first_point_read : (r z near s : ℤ) → r ≡ int_max (pos 1) (floor_div (to_z w64 (of_z w64 z) -ℤ to_z w64 (of_z w64 near) +ℤ to_z w64 (of_z w64 s) -ℤ pos 1) (to_z w64 (of_z w64 s)))
     → to_z w64 (of_z w64 z) ≡ z → to_z w64 (of_z w64 near) ≡ near → to_z w64 (of_z w64 s) ≡ s → r ≡ int_max (pos 1) (floor_div (z -ℤ near +ℤ s -ℤ pos 1) s)

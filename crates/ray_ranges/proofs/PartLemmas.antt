@@ -1,12 +1,12 @@
 -- The parts of blocks that walks read.
 use Rattle.std.proofs.Common.{◌≡◌, ℕ, ◌+◌, ◌*◌, ◌/◌, ◌%◌, ◌<◌, ◌≤◌, ◌↔◌, Bool, true, false, refl, sym, subst, arith}
-use Rattle.std.specs.Prelude.{ℤ, pos, neg_ℤ, ◌+ℤ◌, ◌-ℤ◌, ◌*ℤ◌, ◌≤ℤ◌, ◌<ℤ◌, unsigned_abs, IsTrue}
+use Rattle.std.specs.Prelude.{ℤ, pos, neg_ℤ, ◌+ℤ◌, ◌-ℤ◌, ◌*ℤ◌, ◌≤ℤ◌, ◌<ℤ◌, IsTrue}
 use Rattle.std.proofs.lemmas.Int.{ints, by_lt_z}
 use Rattle.fixed_geom.specs.declared.vector.Vec3.{Vec3}
 use Rattle.fixed_geom.specs.Vectors.{IsWithin}
 use Rattle.fixed_geom.specs.Poses.{Pose, IsPose, world}
 use Rattle.fixed_geom.proofs.Whole.{mul_sum, mul_order}
-use Rattle.fixed_geom.specs.Division.{IsFloor, floor_div}
+use Rattle.fixed_geom.specs.Division.{floor_div}
 use Rattle.fixed_geom.proofs.Floors.{floor_is}
 use Rattle.voxel_block.specs.declared.key.BlockKey.{BlockKey}
 use Rattle.voxel_block.specs.Parts.{part_of}
@@ -25,12 +25,12 @@ use Rattle.ray_ranges.proofs.CubeLemmas.{middle_is, near_middle}
 half_small : (p : ℕ) → 4 * (p % 2) ≤ 4
 half_small p = omega (arith)
 
--- on one axis: a place of a block, and that of a part
-part_place : (s b : ℤ) (h : ℕ) → s *ℤ (pos 8 *ℤ b +ℤ pos h) ≡ (s *ℤ (pos 8 *ℤ b)) +ℤ (s *ℤ pos h)
-part_place s b h = mul_sum s (pos 8 *ℤ b) (pos h)
+-- on one axis: where a block starts, and where a part of it does
+part_start : (s b : ℤ) (h : ℕ) → s *ℤ (pos 8 *ℤ b +ℤ pos h) ≡ (s *ℤ (pos 8 *ℤ b)) +ℤ (s *ℤ pos h)
+part_start s b h = mul_sum s (pos 8 *ℤ b) (pos h)
 
-half_place : (s : ℤ) (h : ℕ) → pos 0 ≤ℤ s → h ≤ 4 → (pos 0 ≤ℤ (s *ℤ pos h)) × ((s *ℤ pos h) ≤ℤ (s *ℤ pos 4))
-half_place s h s0 le = (plain (s *ℤ pos 0) (s *ℤ pos h) (omega (arith, ints)) (mul_order s (pos 0) (pos h) s0 (omega (arith, ints))), mul_order s (pos h) (pos 4) s0 (omega (arith, ints)))
+half_start : (s : ℤ) (h : ℕ) → pos 0 ≤ℤ s → h ≤ 4 → (pos 0 ≤ℤ (s *ℤ pos h)) × ((s *ℤ pos h) ≤ℤ (s *ℤ pos 4))
+half_start s h s0 le = (plain (s *ℤ pos 0) (s *ℤ pos h) (omega (arith, ints)) (mul_order s (pos 0) (pos h) s0 (omega (arith, ints))), mul_order s (pos h) (pos 4) s0 (omega (arith, ints)))
   where
     plain : (z sh : ℤ) → z ≡ pos 0 → z ≤ℤ sh → pos 0 ≤ℤ sh
     plain z sh e h = omega (arith, ints)
@@ -58,10 +58,10 @@ key_axis s b h s1 le w = plain (pos 8 *ℤ b) h (few_voxels s (pos 8 *ℤ b) s1 
     plain : (n : ℤ) (h : ℕ) → IsWithin (pos 152000) n → h ≤ 4 → IsWithin (pos 262144) (n +ℤ pos h)
     plain n h w le = record { low = omega (arith, ints, w.low); high = omega (arith, ints, w.high) }
 
-place_axis : (s b : ℤ) (h : ℕ) → pos 1000 ≤ℤ s → s ≤ℤ pos 100000 → h ≤ 4 → IsWithin (pos 152000000) (s *ℤ (pos 8 *ℤ b)) → IsWithin (pos 154000000) (s *ℤ (pos 8 *ℤ b +ℤ pos h))
-place_axis s b h s1 s5 le w =
-    let p = half_place s h (omega (arith, ints)) le in
-    plain s (s *ℤ (pos 8 *ℤ b +ℤ pos h)) (s *ℤ (pos 8 *ℤ b)) (s *ℤ pos h) (s *ℤ pos 4) (part_place s b h) p.0 p.1 (omega (arith, ints)) s5 w
+start_axis : (s b : ℤ) (h : ℕ) → pos 1000 ≤ℤ s → s ≤ℤ pos 100000 → h ≤ 4 → IsWithin (pos 152000000) (s *ℤ (pos 8 *ℤ b)) → IsWithin (pos 154000000) (s *ℤ (pos 8 *ℤ b +ℤ pos h))
+start_axis s b h s1 s5 le w =
+    let p = half_start s h (omega (arith, ints)) le in
+    plain s (s *ℤ (pos 8 *ℤ b +ℤ pos h)) (s *ℤ (pos 8 *ℤ b)) (s *ℤ pos h) (s *ℤ pos 4) (part_start s b h) p.0 p.1 (omega (arith, ints)) s5 w
   where
     plain : (s a b c d : ℤ) → a ≡ b +ℤ c → pos 0 ≤ℤ c → c ≤ℤ d → d ≡ pos 4 *ℤ s → s ≤ℤ pos 100000 → IsWithin (pos 152000000) b → IsWithin (pos 154000000) a
     plain s a b c d e h i f j w = record { low = omega (arith, ints, w.low); high = omega (arith, ints, w.high) }
@@ -70,7 +70,7 @@ place_axis s b h s1 s5 le w =
 pub part_nearby : (s : ℤ) (b : BlockKey) (p : ℕ) → pos 1000 ≤ℤ s → s ≤ℤ pos 100000 → IsReadable s b → IsNearby s (part_least b p)
 part_nearby s b p s1 s5 r = record {
   key = record { x = key_axis s b.x (4 * (p % 2)) s1 (half_small p) r.x; y = key_axis s b.y (4 * (p / 2 % 2)) s1 (half_small (p / 2)) r.y; z = key_axis s b.z (4 * (p / 4 % 2)) s1 (half_small (p / 4)) r.z };
-  place = record { x = place_axis s b.x (4 * (p % 2)) s1 s5 (half_small p) r.x; y = place_axis s b.y (4 * (p / 2 % 2)) s1 s5 (half_small (p / 2)) r.y; z = place_axis s b.z (4 * (p / 4 % 2)) s1 s5 (half_small (p / 4)) r.z };
+  start = record { x = start_axis s b.x (4 * (p % 2)) s1 s5 (half_small p) r.x; y = start_axis s b.y (4 * (p / 2 % 2)) s1 s5 (half_small (p / 2)) r.y; z = start_axis s b.z (4 * (p / 4 % 2)) s1 s5 (half_small (p / 4)) r.z };
 }
 
 -- on one axis: a block with a part that the nearest voxel of a world point is in begins within 152 metres
@@ -79,8 +79,8 @@ readable_axis s p b h s1 s5 le w at =
     let l = pos 8 *ℤ b +ℤ pos h in
     let s0 : pos 1 ≤ℤ s = omega (arith, ints) in
     let near = near_middle s p (pos 0) l (pos 4) (nearest_axis s p) s0 (floor_is (pos 2 *ℤ p +ℤ s) (pos 2 *ℤ s) (omega (arith, ints))) at in
-    let q = half_place s h (omega (arith, ints)) le in
-    plain s p (s *ℤ (pos 2 *ℤ l +ℤ pos 4 -ℤ pos 1)) (s *ℤ l) (s *ℤ pos 4) (s *ℤ (pos 8 *ℤ b)) (s *ℤ pos h) (middle_is s l (pos 4)) (part_place s b h) q.0 q.1 (omega (arith, ints)) s5 (omega (arith, ints)) w near
+    let q = half_start s h (omega (arith, ints)) le in
+    plain s p (s *ℤ (pos 2 *ℤ l +ℤ pos 4 -ℤ pos 1)) (s *ℤ l) (s *ℤ pos 4) (s *ℤ (pos 8 *ℤ b)) (s *ℤ pos h) (middle_is s l (pos 4)) (part_start s b h) q.0 q.1 (omega (arith, ints)) s5 (omega (arith, ints)) w near
   where
     plain : (s p m sl s4 sb sh : ℤ) → m ≡ (pos 2 *ℤ sl) +ℤ s4 -ℤ s → sl ≡ sb +ℤ sh → pos 0 ≤ℤ sh → sh ≤ℤ s4 → s4 ≡ pos 4 *ℤ s → s ≤ℤ pos 100000 → pos 0 ≤ℤ s → IsWithin (pos 151006226) p → IsWithin s4 (pos 2 *ℤ (p -ℤ pos 0) -ℤ (m -ℤ pos 2 *ℤ pos 0)) → IsWithin (pos 152000000) sb
     plain s p m sl s4 sb sh e f a c g s5 s0 w v = record { low = omega (arith, ints, w.low, w.high, v.low, v.high); high = omega (arith, ints, w.low, w.high, v.low, v.high) }

@@ -29,7 +29,7 @@ in_points near s j z s1 j1 at =
     greater : (q j : ℤ) → pos 1 ≤ℤ j → q ≤ℤ j → int_max (pos 1) q ≤ℤ j
     greater q j h k = omega (arith, ints, clamps)
 
--- ---- one depth in the place of another
+-- ---- one depth instead of another
 
 -- a number of at least 0 that is at most a product with the depth z is at most the product with a greater depth
 at_greater : (n a z b : ℤ) → pos 0 ≤ℤ n → n ≤ℤ (a *ℤ z) → pos 1 ≤ℤ z → z ≤ℤ b → n ≤ℤ (b *ℤ a)
@@ -178,17 +178,3 @@ in_pixels f c w u z x s f1 u0 uw s1 at in_x = record {
 
     smaller : (q u w : ℤ) → u <ℤ w → u ≤ℤ q → u ≤ℤ int_min (w -ℤ pos 1) q
     smaller q u w h k = omega (arith, ints, clamps)
-
--- ---- as the tests of the code choose
-
-pub first_low : (f c x : ℤ) (s : Span) → int_lt x (pos 0) ≡ true → pixel_by c (f *ℤ x) s.low ≡ first_pixel f c x s
-first_low f c x s t = rw t refl
-
-pub first_high : (f c x : ℤ) (s : Span) → int_lt x (pos 0) ≡ false → pixel_by c (f *ℤ x) s.high ≡ first_pixel f c x s
-first_high f c x s t = rw t refl
-
-pub last_high : (f c x : ℤ) (s : Span) → int_lt x (pos 0) ≡ true → pixel_by c (f *ℤ (x +ℤ pos 1) -ℤ pos 1) s.high ≡ last_pixel f c x s
-last_high f c x s t = rw t refl
-
-pub last_low : (f c x : ℤ) (s : Span) → int_lt x (pos 0) ≡ false → pixel_by c (f *ℤ (x +ℤ pos 1) -ℤ pos 1) s.low ≡ last_pixel f c x s
-last_low f c x s t = rw t refl

@@ -6,7 +6,6 @@ use Rattle.fixed_geom.specs.declared.vector.Vec3.{Vec3}
 use Rattle.fixed_geom.specs.Vectors.{IsWithin, AreWithin, vec, dot}
 use Rattle.fixed_geom.specs.Poses.{Pose, column_x, column_y, column_z}
 use Rattle.camera.specs.declared.camera.CameraFields.{CameraFields}
-use Rattle.camera.specs.Cameras.{max_depth, reach_x, reach_y}
 use Rattle.ray_walk.specs.Points.{point_count}
 use Rattle.ray_ranges.specs.Cubes.{IsEnd, IsFrom, IsNearCube}
 use Rattle.ray_ranges.specs.declared.span.Span.{Span}
@@ -49,11 +48,11 @@ pub record IsInside (k : CameraFields) (b : PixelBox) : Type 0 where
 -- ---- the camera coordinates of a cube's points
 
 -- twice the middle of the cube, from the translation t, on one axis
-abbrev pub middle_on : (s l e t : ℤ) → ℤ
-middle_on s l e t = s *ℤ (pos 2 *ℤ l +ℤ e -ℤ pos 1) -ℤ pos 2 *ℤ t
+abbrev pub middle_axis : (s l e t : ℤ) → ℤ
+middle_axis s l e t = s *ℤ (pos 2 *ℤ l +ℤ e -ℤ pos 1) -ℤ pos 2 *ℤ t
 
 abbrev pub middle_of : (s : ℤ) (l : Vec3) (e : ℤ) (t : Vec3) → Vec3
-middle_of s l e t = vec (middle_on s l.x e t.x) (middle_on s l.y e t.y) (middle_on s l.z e t.z)
+middle_of s l e t = vec (middle_axis s l.x e t.x) (middle_axis s l.y e t.y) (middle_axis s l.z e t.z)
 
 -- the sum of the sizes of a column's entries
 abbrev pub size_of : Vec3 → ℤ
@@ -81,13 +80,17 @@ points_of near s z = span (int_max (pos 1) (floor_div (z.low -ℤ near +ℤ s -�
 abbrev pub pixel_by : (c a z : ℤ) → ℤ
 pixel_by c a z = floor_div (floor_div a z +ℤ c) (pos 65536)
 
+-- the depth a for a coordinate below 0, and b for another one
+abbrev pub depth_by_sign : (x a b : ℤ) → ℤ
+depth_by_sign x a b = if int_lt x (pos 0) then a else b
+
 -- the first pixel whose ray may have a point of the coordinates x at the depths z
 abbrev pub first_pixel : (f c x : ℤ) → Span → ℤ
-first_pixel f c x z = pixel_by c (f *ℤ x) (if int_lt x (pos 0) then z.low else z.high)
+first_pixel f c x z = pixel_by c (f *ℤ x) (depth_by_sign x z.low z.high)
 
 -- and the last one
 abbrev pub last_pixel : (f c x : ℤ) → Span → ℤ
-last_pixel f c x z = pixel_by c (f *ℤ (x +ℤ pos 1) -ℤ pos 1) (if int_lt x (pos 0) then z.high else z.low)
+last_pixel f c x z = pixel_by c (f *ℤ (x +ℤ pos 1) -ℤ pos 1) (depth_by_sign x z.high z.low)
 
 -- the pixels of an image of w pixels whose rays may have points of the coordinates x at the depths z
 abbrev pub pixels_of : (f c w : ℤ) (x z : Span) → Span
@@ -117,7 +120,7 @@ box_of k m l e d =
 -- a least voxel whose cube walks may come near to: its coordinates fit the keys of blocks, and it stands within 154 metres of the origin on each axis
 pub record IsNearby (s : ℤ) (l : Vec3) : Type 0 where
   pub key : AreWithin (pos 262144) l
-  pub place : AreWithin (pos 154000000) (vec (s *ℤ l.x) (s *ℤ l.y) (s *ℤ l.z))
+  pub start : AreWithin (pos 154000000) (vec (s *ℤ l.x) (s *ℤ l.y) (s *ℤ l.z))
 
 -- both ends of a span are at most n either way
 pub record IsSpanWithin (n : ℤ) (a : Span) : Type 0 where

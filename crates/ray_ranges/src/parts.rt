@@ -48,12 +48,12 @@ fn is_readable_axis(voxel: i64, coordinate: i16) -> bool
     requires voxel_high { voxel ≤ℤ pos 100000 }
     ensures { IsTrue result ↔ IsWithin (pos 152000000) (voxel *ℤ (pos 8 *ℤ coordinate)) }
 {
-    let place = place(voxel, coordinate);
-    -READABLE <= place && place <= READABLE
+    let start = block_start(voxel, coordinate);
+    -READABLE <= start && start <= READABLE
 }
 
-/// Where a block begins on one axis, in micrometres.
-fn place(voxel: i64, coordinate: i16) -> i64
+/// Where a block starts on one axis, in micrometres.
+fn block_start(voxel: i64, coordinate: i16) -> i64
     requires voxel { pos 1 ≤ℤ voxel }
     requires voxel_high { voxel ≤ℤ pos 100000 }
     ensures { result ≡ voxel *ℤ (pos 8 *ℤ coordinate) }

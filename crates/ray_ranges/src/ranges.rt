@@ -109,7 +109,7 @@ impl Ranges {
     {
         let tile = tile_number(self.shape, u as usize / 8, v as usize / 8);
         let start = range_index(self.shape, tile, 0);
-        some_of(self.list.as_slice(), start, start + self.shape.slabs)
+        ranges_between(self.list.as_slice(), start, start + self.shape.slabs)
     }
 }
 
@@ -124,7 +124,7 @@ fn widen_list(list: &mut Vec<PointRange>, shape: Shape, found: TileBox)
 }
 
 /// The ranges from one index to before another one.
-fn some_of(ranges: &[PointRange], start: usize, end: usize) -> &[PointRange]
+fn ranges_between(ranges: &[PointRange], start: usize, end: usize) -> &[PointRange]
     requires order { start ≤ end }
     requires end { end ≤ length ranges.now }
     ensures { result.now ≡ slice_range ranges.now start end }

@@ -6,7 +6,7 @@ ghost use Rattle.fixed_geom.specs.Vectors.{AreWithin, IsWithin, dot as dot_of};
 ghost use Rattle.ray_walk.specs.Raising.{ray_raise};
 
 use crate::ray::RAISE;
-use fixed_geom::Vec3;
+use fixed_geom::{Vec3, dot, micrometres};
 
 /// A row of a rotation, and what its products with a raised point of a ray are added to, in units of `2^-30`.
 #[derive(Clone, Copy)]
@@ -42,14 +42,6 @@ impl Form {
     }
 }
 
-/// The floor of a number by `2^30`.
-fn micrometres(a: i64) -> i64
-    requires { IsWithin (pos (2 ^ 60)) a }
-    ensures { result ≡ floor_div a unit }
-{
-    a >> 30
-}
-
 /// A raised coordinate in units of `2^-30`.
 fn raised(t: i64, raise: i64) -> i64
     requires t { IsWithin translation_bound t }
@@ -67,23 +59,4 @@ fn ray_part(entry: i64) -> i64
     ensures bound { IsWithin (pos (2 ^ 55)) result }
 {
     entry * RAISE
-}
-
-/// The sum of the products of the coordinates of a row and a raised point.
-fn dot(row: Vec3, p: Vec3) -> i64
-    requires row { AreWithin entry_bound row }
-    requires p { AreWithin (pos 34000001) p }
-    ensures value { result ≡ dot_of row p }
-    ensures bound { IsWithin (pos (2 ^ 58)) result }
-{
-    times(row.x, p.x) + times(row.y, p.y) + times(row.z, p.z)
-}
-
-fn times(entry: i64, c: i64) -> i64
-    requires entry { IsWithin entry_bound entry }
-    requires c { IsWithin (pos 34000001) c }
-    ensures value { result ≡ entry *ℤ c }
-    ensures bound { IsWithin (pos (2 ^ 56)) result }
-{
-    entry * c
 }

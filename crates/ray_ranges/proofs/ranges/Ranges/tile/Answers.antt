@@ -6,8 +6,8 @@ use Rattle.ray_ranges.proofs.RangeLemmas.{part_in_slabs}
 use Rattle.ray_ranges.proofs.SlabLemmas.{part_inside}
 use Rattle.ray_ranges.proofs.ranges.Ranges.tile.Goals as goal
 
-pub some_of-requires-clause-end : goal.some_of-requires-clause-end
-some_of-requires-clause-end c =
+pub ranges_between-requires-clause-end : goal.ranges_between-requires-clause-end
+ranges_between-requires-clause-end c =
     let s = c.self.inside.shape in
     let start = c.range_index-start in
     let tile = c.tile_number-tile in
@@ -18,6 +18,6 @@ returns-clause-slabs c =
     let s = c.self.inside.shape in
     let start = c.range_index-start in
     let tile = c.tile_number-tile in
-    part_in_slabs s c.self.inside.list.items c.some_of.result.now tile.result start.result c.args.self.now.shape.slab c.self.invariant.ranges start.ensures.value
+    part_in_slabs s c.self.inside.list.items c.ranges_between.result.now tile.result start.result c.args.self.now.shape.slab c.self.invariant.ranges start.ensures.value
     (part_inside start.result tile.result (s.down * s.across) s.slabs (length c.self.inside.list.items) start.ensures.value tile.ensures.bound c.self.invariant.size)
-    (c.some_of.ensures ∙ ap (λ (l : List PointRange). slice_range l start.result (start.result + s.slabs)) c.as_slice.ensures.value) (ap (λ (t : Table). t.shape.slab) c.self.view_is)
+    (c.ranges_between.ensures ∙ ap (λ (l : List PointRange). slice_range l start.result (start.result + s.slabs)) c.as_slice.ensures.value) (ap (λ (t : Table). t.shape.slab) c.self.view_is)
