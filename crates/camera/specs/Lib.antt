@@ -4,4 +4,5 @@ pub mod Laws
 pub mod Opening
 pub mod SampleRanges
 pub mod Slopes
+pub mod Values
 pub mod Visibility

@@ -9,8 +9,10 @@ use Rattle.fixed_geom.specs.Poses.{Pose}
 use Rattle.voxel_block.specs.declared.key.BlockKey.{BlockKey}
 use Rattle.voxel_block.specs.declared.voxel.Voxel.{Voxel}
 use Rattle.voxel_block.specs.Parts.{IsLow, part_of}
+use Rattle.voxel_block.specs.Voxels.{known_value}
 use Rattle.camera.specs.declared.camera.CameraFields.{CameraFields}
 use Rattle.camera.specs.Grid.{block_of_voxel, index_of_voxel}
+use Rattle.camera.specs.Values.{value_in}
 use Rattle.ray_walk.specs.Points.{IsPoint, point_depth, voxel_at}
 use Rattle.ray_ranges.specs.declared.point_range.PointRange.{PointRange}
 use Rattle.ray_ranges.specs.Cubes.{IsEnd, IsInCube, IsNearCube, part_least}
@@ -24,7 +26,7 @@ use Rattle.streamer.proofs.Blocks.{get-heap}
 use Rattle.raycaster.specs.Low.{HaveBlock, IsWider}
 use Rattle.raycaster.specs.Tries.{AreAscending, HaveAllEnds}
 use Rattle.raycaster.specs.Views.{HaveLow}
-use Rattle.raycaster.specs.Walk.{Scene, known_value, scene_of, value_in, walk_points}
+use Rattle.raycaster.specs.Walk.{Scene, scene_of, walk_points}
 use Rattle.raycaster.proofs.TryLemmas.{low_end}
 
 -- ---- the parts of a block

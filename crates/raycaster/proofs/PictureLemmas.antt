@@ -14,10 +14,11 @@ use Rattle.depth_frame.specs.DepthMaps.{depth_map_of}
 use Rattle.camera.specs.declared.camera.CameraFields.{CameraFields}
 use Rattle.camera.specs.Cameras.{IsCamera}
 use Rattle.camera.specs.Grid.{block_of_voxel, index_of_voxel}
+use Rattle.camera.specs.Values.{value_in}
 use Rattle.raycaster.specs.Laws.{AgreeOnActive}
 use Rattle.ray_walk.specs.Points.{point_count, point_depth, voxel_at}
 use Rattle.ray_walk.proofs.PointLemmas.{point_is_active}
-use Rattle.raycaster.specs.Walk.{hit, picture, point_value, row_samples, sample, sample_at, scene_of, value_in, walk_points}
+use Rattle.raycaster.specs.Walk.{hit, picture, point_value, row_samples, sample, sample_at, scene_of, walk_points}
 
 -- ---- lists over the first numbers
 

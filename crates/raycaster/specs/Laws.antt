@@ -9,8 +9,9 @@ use Rattle.voxel_block.specs.Keys.{key_cmp}
 use Rattle.camera.specs.declared.camera.CameraFields.{CameraFields}
 use Rattle.camera.specs.Cameras.{HasRanges, IsCamera, is_active}
 use Rattle.camera.specs.Grid.{block_of_voxel, index_of_voxel}
+use Rattle.camera.specs.Values.{value_of}
 use Rattle.ray_walk.specs.Points.{point_depth}
-use Rattle.raycaster.specs.Walk.{hit, hit_depth, is_hit, picture, scene_of, value_of}
+use Rattle.raycaster.specs.Walk.{hit, hit_depth, is_hit, picture, scene_of}
 
 -- the map has the block of a voxel, and the voxel has this value and a weight above 0
 pub record IsKnown (m : FinMap key_cmp (List Voxel)) (c : Vec3) (f : ℤ) : Type 0 where

@@ -1,16 +1,14 @@
 -- The picture that a camera would take of a map: each pixel shows the first surface on its ray. The depth between two points is that of Newcombe and others (2011); the choice of the points and the roundings are this project's own.
-use Rattle.std.specs.Prelude.{ℕ, ◌+◌, nat_lt, ℤ, pos, ◌+ℤ◌, ◌-ℤ◌, ◌*ℤ◌, int_le, int_lt, Bool, false, ◌&&◌, if◌then◌else◌, unsigned_abs, min, Option, None, Some, List, length, map, slice_get, slice_index_or}
-use Rattle.std.specs.FinMap.{FinMap, get}
+use Rattle.std.specs.Prelude.{ℕ, ◌+◌, ℤ, pos, ◌+ℤ◌, ◌-ℤ◌, ◌*ℤ◌, int_le, int_lt, Bool, false, ◌&&◌, unsigned_abs, min, Option, None, Some, List, length, map, slice_index_or}
+use Rattle.std.specs.FinMap.{FinMap}
 use Rattle.std.specs.List.{find, flat_map, range_with_len}
-use Rattle.std.specs.Option.{option_and_then}
 use Rattle.fixed_geom.specs.Division.{floor_div}
-use Rattle.fixed_geom.specs.declared.vector.Vec3.{Vec3}
 use Rattle.fixed_geom.specs.Poses.{Pose}
 use Rattle.voxel_block.specs.declared.voxel.Voxel.{Voxel}
 use Rattle.voxel_block.specs.Keys.{key_cmp}
 use Rattle.depth_frame.specs.DepthMaps.{DepthMap, depth_map_of}
 use Rattle.camera.specs.declared.camera.CameraFields.{CameraFields}
-use Rattle.camera.specs.Grid.{block_of_voxel, index_of_voxel}
+use Rattle.camera.specs.Values.{value_of}
 use Rattle.ray_walk.specs.Points.{point_count, point_depth, voxel_at}
 
 -- what a picture is of: a map from keys to the 512 voxels of a block, the camera, and the pose that it looks from
@@ -21,21 +19,6 @@ pub record Scene : Type 0 where
 
 abbrev pub scene_of : CameraFields → Pose → FinMap key_cmp (List Voxel) → Scene
 scene_of k p m = record { blocks = m; camera = k; pose = p }
-
--- ---- what is known
-
--- the value of a voxel, its distance, which is known where its weight is above 0
-abbrev pub known_value : Voxel → Option ℤ
-known_value v = if nat_lt 0 v.w then Some v.f else None
-
--- the known value of the voxel of index i of a block, if there is a block
-abbrev pub value_in : Option (List Voxel) → (i : ℕ) → Option ℤ
-value_in None i = None
-value_in (Some voxels) i = option_and_then known_value (slice_get voxels i)
-
--- the known value of the voxel with these coordinates in the whole grid; none is known where the map lacks its block
-abbrev pub value_of : FinMap key_cmp (List Voxel) → Vec3 → Option ℤ
-value_of m c = value_in (get m (block_of_voxel c)) (index_of_voxel c)
 
 -- ---- the walk of a pixel
 

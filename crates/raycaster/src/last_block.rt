@@ -1,9 +1,9 @@
 ghost use Rattle.std.specs.Prelude.{◌≡◌, ◌<◌, option_map};
+ghost use Rattle.camera.specs.Values.{value_in};
 ghost use Rattle.raycaster.specs.Views.{IsLookedUp};
-ghost use Rattle.raycaster.specs.Walk.{known_value as known_value_of, value_in};
 
 use streamer::Rest;
-use voxel_block::{Block, BlockKey, Voxel};
+use voxel_block::{Block, BlockKey};
 
 /// The block that was looked up last. It is remembered where the heap lacks it, too.
 #[derive(Clone, Copy)]
@@ -43,15 +43,8 @@ impl<'a> LastBlock<'a> {
         ensures { result ≡ value_in (option_map (λ b. b.now) self.now.block) i }
     {
         match self.block {
-            Some(block) => known_value(block.get(i)),
+            Some(block) => block.get(i).known_value(),
             None => None,
         }
     }
-}
-
-/// The value of a voxel, its distance, if it was observed.
-fn known_value(voxel: Voxel) -> Option<i16>
-    ensures { result ≡ known_value_of voxel }
-{
-    if voxel.w > 0 { Some(voxel.f) } else { None }
 }

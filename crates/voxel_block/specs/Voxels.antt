@@ -1,5 +1,5 @@
 -- One voxel, and voxels from their distances and weights.
-use Rattle.std.specs.Prelude.{◌≡◌, ◌≢◌, ℕ, ℤ, pos, negsuc, List, [], ◌∷◌, refl}
+use Rattle.std.specs.Prelude.{◌≡◌, ◌≢◌, ℕ, nat_lt, ℤ, pos, negsuc, Bool, if◌then◌else◌, Option, Some, None, List, [], ◌∷◌, refl}
 use Rattle.std.specs.Coded.{Coded, code_by, coded×, coded_ℕ, coded_ℤ}
 use Rattle.voxel_block.specs.declared.voxel.Voxel.{Voxel}
 
@@ -15,6 +15,14 @@ new_voxel = record { f = pos 32767; w = 0 }
 pub record IsVoxel (v : Voxel) : Type 0 where
   pub in_range : v.f ≢ negsuc 32767
   pub unobserved : v.w ≡ 0 → v.f ≡ pos 32767
+
+-- a voxel is known where its weight is above 0
+abbrev pub is_known : Voxel → Bool
+is_known v = nat_lt 0 v.w
+
+-- the value of a known voxel, its distance
+abbrev pub known_value : Voxel → Option ℤ
+known_value v = if is_known v then Some v.f else None
 
 -- the voxels that have these distances and these weights, in order
 abbrev pub voxels_of : List ℤ → List ℕ → List Voxel

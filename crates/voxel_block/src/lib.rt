@@ -8,6 +8,7 @@ pub mod laws;
 mod no_memory;
 mod packed;
 mod parts;
+mod summary;
 mod unpack;
 mod voxel;
 
@@ -16,6 +17,7 @@ pub use chunk::ChunkKey;
 pub use key::BlockKey;
 pub use no_memory::NoMemory;
 pub use packed::{Packed, pack_into};
+pub use summary::Summary;
 pub use unpack::{BadPacked, unpack_into};
 pub use voxel::Voxel;
 

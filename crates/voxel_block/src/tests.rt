@@ -257,6 +257,47 @@ fn a_part_is_low_where_one_of_its_voxels_is(rt: HostRuntime) -> Result<(), Fail>
 }
 
 #[test]
+fn a_voxel_is_known_once_it_was_observed(rt: HostRuntime) {
+    for (name, f, w, value) in [
+        ("new", 32767, 0, None),
+        ("observed once", -5, 1, Some(-5)),
+        ("often, on the surface", 0, 255, Some(0)),
+        ("far in front", 32767, 1, Some(32767)),
+    ] {
+        let voxel = Voxel { f, w };
+        assert_eq!(rt; voxel.known_value(), value, "{name}");
+        assert_eq!(rt; voxel.is_known(), value.is_some(), "{name}");
+    }
+}
+
+#[test]
+fn a_summary_counts_and_compares_the_known_voxels(rt: HostRuntime) -> Result<(), Fail> {
+    let mut block = Block::make(rt.alloc())?;
+    let new = block.summary();
+    is_shared(&new);
+    assert_eq!(rt; (new.known, new.least), (0, 32767), "new");
+    for (name, i, voxel, known, least) in [
+        ("one behind the surface", 17, (-5, 1), 1, 5),
+        ("a nearer one in front", 300, (3, 2), 2, 3),
+        ("the farthest one behind", 511, (-32767, 255), 3, 3),
+        ("the farthest one in front", 0, (32767, 1), 4, 3),
+        ("the nearest one new again", 300, (32767, 0), 3, 5),
+        ("one that was new", 301, (32767, 0), 3, 5),
+        ("one on the surface", 8, (0, 1), 4, 0),
+    ] {
+        let (f, w) = voxel;
+        block.set(i, Voxel { f, w });
+        let summary = block.summary();
+        assert_eq!(rt; (summary.known, summary.least), (known, least), "{name}");
+    }
+    set_layer(&mut block, 1, -9);
+    assert_eq!(rt; block.summary().known, 68, "a layer");
+    block.reset();
+    assert_eq!(rt; block.summary(), new, "reset");
+    Ok(())
+}
+
+#[test]
 fn the_errors_read_as_words(rt: HostRuntime) -> Result<(), Fail> {
     is_shared(&NoMemory);
     assert_eq!(rt;
