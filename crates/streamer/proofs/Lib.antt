@@ -2,6 +2,7 @@ pub mod Blocks
 pub mod Counts
 pub mod Folding
 pub mod Keyed
+pub mod KnownKeys
 pub mod Moves
 pub mod NewPlaces
 pub mod Owning

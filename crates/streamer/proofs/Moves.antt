@@ -127,6 +127,21 @@ module _ (p r : Places) (k : BlockKey) (n : ℕ) (placed : IsPlaced p) (x : IsLe
       ((λ i. or_else (in_heap r.heap (left_none p r k n placed x.vacated i)) (in_store (stored_here i))) ∙ ap Some back ∙ sym (get-resident p k n x.vacated.cell)))
       (λ other. (λ i. or_else (left_resident p r k n placed x.vacated q other i) (in_store (stored_there q other i))) ∙ sym (get-blocks p q)))
 
+-- a key whose cell is free is known no more, where the store is as it was
+module _ (p r : Places) (k : BlockKey) (n : ℕ) (placed : IsPlaced p) (x : IsVacated p r k n) (same : r.store.contents ≡ p.store.contents) where
+  unstored : get r.store.contents k ≡ None
+  unstored = ap (λ m. get m k) same ∙ placed.apart k (ap is_some x.cell)
+
+  pub removed_placed : IsPlaced r
+  removed_placed = vacated_placed p r k n placed x (λ q other. ap (λ m. get m q) same)
+      (λ bytes e. (let z : ◌≡◌ {A = Option (List ℕ)} None (Some bytes) = sym unstored ∙ e in absurd (cc)))
+
+  pub removed_blocks : blocks_of r ≡ remove (blocks_of p) k
+  removed_blocks = is-blocks r (remove (blocks_of p) k) (λ q. by_key q k
+      (λ e. subst (λ y. or_else (in_heap r.heap (cell_of r.table y)) (in_store (get r.store.contents y)) ≡ get (remove (blocks_of p) k) y) (sym e)
+      ((λ i. or_else (in_heap r.heap (left_none p r k n placed x i)) (in_store (unstored i))) ∙ sym (gone_here (blocks_of p) k)))
+      (λ other. (λ i. or_else (left_resident p r k n placed x q other i) (in_store (get (same i) q))) ∙ sym (get-blocks p q) ∙ sym (gone_elsewhere (blocks_of p) k q other)))
+
 -- ---- a key comes to a cell
 
 -- a key that had no cell has one that was free, with this block

@@ -8,15 +8,16 @@ use Rattle.voxel_block.specs.declared.voxel.Voxel.{Voxel}
 use Rattle.voxel_block.specs.Blocks.{new_block}
 use Rattle.voxel_block.proofs.KeyLaws.{gone_elsewhere, gone_here}
 use Rattle.spatial_hash.specs.Contents.{contents}
+use Rattle.spatial_hash.specs.Table.{Table}
 use Rattle.block_heap.specs.Cells.{Cells, content, drawn, given_up, is_free_at}
 use Rattle.block_heap.specs.HeapLending.{with_block_at}
 use Rattle.block_heap.proofs.FreeLists.{is_free_at-lt}
 use Rattle.streamer.specs.Owners.{block_in, owner_at}
-use Rattle.streamer.specs.Places.{IsPlaced, Places, blocks_of, cell_of}
-use Rattle.streamer.proofs.Blocks.{get-stored, in_store}
+use Rattle.streamer.specs.Places.{IsPlaced, Places, blocks_of, cell_of, in_heap}
+use Rattle.streamer.proofs.Blocks.{get-resident, get-stored, in_store}
 use Rattle.voxel_block.specs.Packing.{IsBlock, IsKey, packed, voxels_in}
 use Rattle.streamer.proofs.Keyed.{none_of}
-use Rattle.streamer.proofs.Moves.{IsLeft, IsSettledIn}
+use Rattle.streamer.proofs.Moves.{IsLeft, IsSettledIn, IsVacated}
 use Rattle.streamer.proofs.Owning.{IsChanged, below, entered, entered_free, left, left_free, made_free, made_in, owner_is, vacant}
 
 -- the cell that the hash names is one of the heap's
@@ -35,24 +36,36 @@ stored_is_out p k placed stored = by (cell_of p.table k) refl
     by None e = refl
     by (Some n) e = (let z : false ≡ true = ap is_some (sym (placed.apart k (ap is_some e))) ∙ stored in absurd (cc))
 
-pub leaves : (p r : Places) (k : BlockKey) (n : ℕ) (bytes : List ℕ) (had : Bool) → IsPlaced p → Some n ≡ cell_of p.table k → bytes ≡ packed k (block_in p.heap n) → IsKey k → IsBlock (block_in p.heap n)
+-- an owned cell is given up, and its key is removed from the hash
+pub vacates : (p r : Places) (k : BlockKey) (v : List Voxel) (n : ℕ) (had : Bool) → IsPlaced p → owner_at p.heap n ≡ Some (k, v)
     → contents r.table ≡ cond had (remove (contents p.table) k) (contents p.table) → had ≡ contains_key (contents p.table) k → r.table.nodes ≡ p.table.nodes
-    → r.heap ≡ given_up p.heap n → r.store.contents ≡ insert p.store.contents k bytes → IsLeft p r k n
-leaves p r k n bytes had placed cell is key block table was nodes heap store =
-    let owner : owner_at p.heap n ≡ Some (k, block_in p.heap n) = placed.found k n (sym cell) in
-    let there : contains_key (contents p.table) k ≡ true = ap is_some (sym cell) in
+    → r.heap ≡ given_up p.heap n → IsVacated p r k n
+vacates p r k v n had placed owner table was nodes heap =
+    let cell : cell_of p.table k ≡ Some n = placed.owned k n v owner in
+    let there : contains_key (contents p.table) k ≡ true = ap is_some cell in
     record {
-      vacated = record {
-        cell = sym cell;
-        table = table ∙ ap (λ b. cond b (remove (contents p.table) k) (contents p.table)) (was ∙ there);
-        nodes = nodes;
-        heap = subst (λ g. IsChanged p.heap g n None) (sym heap) (left p.heap n (k, block_in p.heap n) owner);
-        free = ap (λ (g : Cells). length g.free) heap ∙ left_free p.heap n (k, block_in p.heap n) owner;
-      };
-      store = store ∙ ap (insert p.store.contents k) is;
-      key = key;
-      block = block;
+      cell = cell;
+      table = table ∙ ap (λ b. cond b (remove (contents p.table) k) (contents p.table)) (was ∙ there);
+      nodes = nodes;
+      heap = subst (λ g. IsChanged p.heap g n None) (sym heap) (left p.heap n (k, v) owner);
+      free = ap (λ (g : Cells). length g.free) heap ∙ left_free p.heap n (k, v) owner;
     }
+
+-- a resident block is removed from its cell, and then its packed form is stored
+pub leaves : (p q r : Places) (k : BlockKey) (n : ℕ) (bytes : List ℕ) → IsVacated p q k n → q.store.contents ≡ p.store.contents → bytes ≡ packed k (block_in p.heap n) → IsKey k → IsBlock (block_in p.heap n)
+    → r.table ≡ q.table → r.heap ≡ q.heap → r.store.contents ≡ insert q.store.contents k bytes → IsLeft p r k n
+leaves p q r k n bytes x same is key block table heap store = record {
+  vacated = record {
+    cell = x.cell;
+    table = ap contents table ∙ x.table;
+    nodes = ap (λ (t : Table). t.nodes) table ∙ x.nodes;
+    heap = subst (λ h. IsChanged p.heap h n None) (sym heap) x.heap;
+    free = ap (λ (h : Cells). length h.free) heap ∙ x.free;
+  };
+  store = store ∙ (λ i. insert (same i) k (is i));
+  key = key;
+  block = block;
+}
 
 pub enters : (p r : Places) (k : BlockKey) (n : ℕ) (v : List Voxel) → IsPlaced p → contains_key p.store.contents k ≡ true
     → contents r.table ≡ insert (contents p.table) k n → r.table.nodes ≡ p.table.nodes → is_free_at p.heap.cells n ≡ true → 0 < length p.heap.free
@@ -117,3 +130,21 @@ unpacks p k bytes placed is =
       form = x.form;
       told = get-stored p k (stored_is_out p k placed (ap is_some (sym is))) ∙ ap in_store (sym is);
     }
+
+-- ---- the block of a key
+
+-- what is told of a key whose block is lent
+pub lent_told : (p : Places) (k : BlockKey) (v : List Voxel) → Some v ≡ in_heap p.heap (cell_of p.table k) → get (blocks_of p) k ≡ Some v
+lent_told p k v is = by (cell_of p.table k) refl
+  where
+    by : (c : Option ℕ) → cell_of p.table k ≡ c → get (blocks_of p) k ≡ Some v
+    by None e = absurd (let z : ◌≡◌ {A = Option (List Voxel)} (Some v) None = is ∙ ap (in_heap p.heap) e in cc)
+    by (Some n) e = get-resident p k n e ∙ sym (is ∙ ap (in_heap p.heap) e)
+
+-- and of one that lies in neither place
+pub none_told : (p : Places) (k : BlockKey) → None ≡ in_heap p.heap (cell_of p.table k) → is_some (get p.store.contents k) ≡ false → get (blocks_of p) k ≡ None
+none_told p k out unstored = by (cell_of p.table k) refl
+  where
+    by : (c : Option ℕ) → cell_of p.table k ≡ c → get (blocks_of p) k ≡ None
+    by None e = get-stored p k e ∙ ap in_store (none_of (get p.store.contents k) unstored)
+    by (Some n) e = absurd (let z : ◌≡◌ {A = Option (List Voxel)} None (in_heap p.heap (Some n)) = out ∙ ap (in_heap p.heap) e in cc)

@@ -172,6 +172,23 @@ impl Rest {
         }
     }
 
+    /// The block of a key, wherever it lies: a stored one is unpacked into `scratch`. `None` where the key is not known.
+    pub fn read<'a>(&'a self, key: BlockKey, scratch: &'a mut Block) -> Option<&'a Block>
+        ensures value { option_map (λ b. b.now) result ≡ get (blocks_of self.now) key }
+        ensures placed { IsPlaced self.now }
+    {
+        match self.lend(key) {
+            Some(block) => Some(block),
+            None => {
+                if self.unpack(key, scratch) {
+                    Some(scratch)
+                } else {
+                    None
+                }
+            }
+        }
+    }
+
     /// All known keys, in order.
     pub fn keys(&self, alloc: Global) -> Result<Vec<BlockKey>, NoMemory>
         ensures blocks { IfOk result (λ v. v.items ≡ keys (blocks_of self.now)) }

@@ -219,6 +219,42 @@ fn more_blocks_than_cells_have_no_plan(rt: HostRuntime) -> Result<(), Fail> {
     Ok(())
 }
 
+// Removes the block of a cell, where it is owned.
+#[tactic(auto, unfolding(crate::specs::Owners::owner_at))]
+fn remove(rest: &mut Rest, cell: u32) -> bool {
+    if cell >= rest.cell_count() || rest.heap().lend(cell).is_none() {
+        return false;
+    }
+    rest.remove_at(cell);
+    true
+}
+
+// The first voxel of a key's block, wherever it lies.
+fn read(rest: &Rest, key: BlockKey, scratch: &mut Block) -> Option<Voxel> {
+    Some(rest.read(key, scratch)?.get(0))
+}
+
+#[test]
+fn a_removed_block_is_known_no_more(rt: HostRuntime) -> Result<(), Fail> {
+    let mut rest = one_of_each(rt.alloc())?;
+    let mut scratch = Block::make(rt.alloc())?;
+    let (resident, stored) = (key(0, 0, 0), key(-1, 0, 5));
+    let voxel = Some(Voxel { f: 5, w: 255 });
+    assert_eq!(rt;
+        read(&rest, resident, &mut scratch),
+        Some(Voxel { f: -7, w: 2 })
+    );
+    assert_eq!(rt; read(&rest, stored, &mut scratch), voxel);
+    assert_eq!(rt; read(&rest, key(0, 0, 1), &mut scratch), None);
+    assert!(rt; !remove(&mut rest, 1));
+    assert!(rt; remove(&mut rest, 0));
+    assert!(rt; !remove(&mut rest, 0));
+    assert_eq!(rt; (rest.free_count(), rest.len()), (2, 1));
+    assert_eq!(rt; read(&rest, resident, &mut scratch), None);
+    assert_eq!(rt; read(&rest, stored, &mut scratch), voxel);
+    Ok(())
+}
+
 #[test]
 fn refusals_have_words(rt: HostRuntime) -> Result<(), Fail> {
     for (error, words) in [

@@ -1,7 +1,8 @@
-ghost use Rattle.std.specs.Prelude.{◌≡◌, ◌+◌, ◌<◌, ◌||◌, false, length, IsTrue, OnOk, is_some};
+ghost use Rattle.std.specs.Prelude.{◌≡◌, ◌≢◌, ℕ, ◌+◌, ◌<◌, ◌||◌, false, length, IsTrue, List, None, OnOk, Some, is_some};
 ghost use Rattle.std.specs.FinMap.{contains_key, insert, remove};
 ghost use Rattle.std.specs.FinSet.{contains};
 ghost use Rattle.voxel_block.specs.declared.key.BlockKey.{BlockKey as Key};
+ghost use Rattle.voxel_block.specs.declared.voxel.Voxel.{Voxel};
 ghost use Rattle.voxel_block.specs.Blocks.{new_block};
 ghost use Rattle.voxel_block.specs.Keys.{same_key};
 ghost use Rattle.voxel_block.specs.Packing.{IsBlock, IsKey, packed as packed_form, voxels_in};
@@ -49,8 +50,7 @@ impl Rest {
             unreachable!()
         };
         let packed = packed_block(&self.heap, cell, key, packed);
-        self.heap.give_up(cell);
-        self.hash.remove(key);
+        self.remove_at(cell);
         self.store.put_reserved(key, packed);
     }
 
@@ -96,6 +96,27 @@ impl Rest {
         if self.hash.insert(key, cell).is_err() {
             unreachable!()
         }
+    }
+
+    /// Removes the block of an owned cell from the map: the cell is free then, and its key is not known. Takes no memory.
+    pub fn remove_at(&mut self, cell: u32)
+        requires cell { cell < length self.old.heap.cells }
+        requires owned { IsTrue (is_some (owner_at self.old.heap cell)) }
+        ensures blocks { (b : Key) (v : List Voxel) → owner_at self.old.heap cell ≡ Some (b, v) → blocks_of self.new ≡ remove (blocks_of self.old) b }
+        ensures table { (b : Key) (v : List Voxel) → owner_at self.old.heap cell ≡ Some (b, v) → contents self.new.table ≡ remove (contents self.old.table) b }
+        ensures vacant { owner_at self.new.heap cell ≡ None }
+        ensures others { (n : ℕ) → n ≢ cell → owner_at self.new.heap n ≡ owner_at self.old.heap n }
+        ensures store { self.new.store ≡ self.old.store }
+        ensures free { length self.new.heap.free ≡ length self.old.heap.free + 1 }
+        ensures cells { length self.new.heap.cells ≡ length self.old.heap.cells }
+        ensures size { KeepsSize self.old.table self.new.table }
+        ensures placed { IsPlaced self.new }
+    {
+        let Some((key, _)) = self.heap.lend(cell) else {
+            unreachable!()
+        };
+        self.heap.give_up(cell);
+        self.hash.remove(key);
     }
 }
 
