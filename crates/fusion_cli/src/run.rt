@@ -13,7 +13,7 @@ use depth_frame::DepthFrame;
 use fixed_geom::{BadPose, PoseRows};
 use fusion_core::Refusal;
 use scan_io::{Sink, Source, put_all};
-use scan_lang::{BadScan, Entry, Reply, ScanError, ScanReader, VoxelList, reply_bytes};
+use scan_lang::{BadScan, Entry, PointList, Reply, ScanError, ScanReader, VoxelList, reply_bytes};
 use session::{ReadError, RenderError, Session};
 use std::alloc::Global;
 use voxel_block::NoMemory;
@@ -144,11 +144,13 @@ fn act(alloc: Global, session: &mut Session, entry: Entry) -> Result<Reply, Stop
 {
     match entry {
         Entry::Frame(rows, depths) => fuse(alloc, session, &rows, depths),
+        Entry::Collect => Ok(Reply::Collected(session.collect()?)),
         Entry::Render => render(alloc, session),
         Entry::Voxels => {
             let (blocks, known) = session.voxels(alloc)?;
             Ok(Reply::Voxels(blocks, VoxelList::make(known)))
         }
+        Entry::Points => Ok(Reply::Points(PointList::make(session.points(alloc)?))),
         Entry::Sum => Ok(Reply::Totals(session.totals()?)),
         Entry::Place(key) => Ok(Reply::Place(session.place_of(key))),
         Entry::End => Ok(Reply::End),

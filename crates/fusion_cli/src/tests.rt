@@ -328,6 +328,107 @@ fn scans_are_answered(rt: HostRuntime) -> Result<(), Fail> {
     Ok(())
 }
 
+// The block behind the wall has no distance nearer to 0 than 32767. Each run ends with the totals.
+#[test]
+fn collections_are_answered(rt: HostRuntime) -> Result<(), Fail> {
+    let alloc = rt.alloc();
+    let table: [(&str, &str, &[Shot], &str, &[Shot], &str); 3] = [
+        (
+            "before the first frame",
+            "\"empty_f\":30000",
+            &[],
+            "render\npoints\ncollect\n",
+            &[],
+            "render refused no frame\npoints 0\nply\nformat ascii 1.0\nelement vertex 0\nproperty int x\nproperty int y\nproperty int z\nend_header\ncollect 0\nsum blocks 0 known 0 weight 0 distance 0\nend\n",
+        ),
+        (
+            "between two frames",
+            "\"empty_f\":30000",
+            &[WALL],
+            "collect\n",
+            &[WALL],
+            "frame 1 blocks 2 resident 2\ncollect 1\nframe 2 blocks 2 resident 2\nsum blocks 2 known 576 weight 1088 distance -192\nend\n",
+        ),
+        (
+            "of every block",
+            "\"empty_f\":0",
+            &[WALL],
+            "collect\n",
+            &[],
+            "frame 1 blocks 2 resident 2\ncollect 2\nsum blocks 0 known 0 weight 0 distance 0\nend\n",
+        ),
+    ];
+    for (name, empty_f, before, asked, after, wanted) in table {
+        let begun = scan(config(alloc, "\"empty_f\":30000", empty_f)?, before, asked)?;
+        let text = scan(begun, after, "sum\nend\n")?;
+        let (status, sink) = run_on(alloc, text, 7, Vec::new(alloc), Vec::new(alloc))?;
+        assert_eq!(rt; status, Status::Done, "{name}");
+        assert_eq!(rt; sink.bytes(), wanted.as_bytes(), "{name}");
+    }
+    Ok(())
+}
+
+// Each view of a wall, ahead or behind, by the last entry of its rotation and its sample; the totals, the sample of its picture, and
+// the depth of each of its 64 points.
+#[test]
+fn the_points_of_a_wall_are_a_file(rt: HostRuntime) -> Result<(), Fail> {
+    let alloc = rt.alloc();
+    let table: [(i32, &[u8], &str, &[u8], i32); 4] = [
+        (
+            1,
+            b"\x03\xe8",
+            "576 weight 576 distance -192",
+            b"\x03\xe8",
+            1_000_000,
+        ),
+        // 10000 * 4095 / 8191 behind the voxel at 1 m.
+        (
+            1,
+            b"\x03\xed",
+            "576 weight 576 distance 2096832",
+            b"\x03\xec",
+            1_004_999,
+        ),
+        (
+            -1,
+            b"\x03\xe8",
+            "1024 weight 1024 distance 14679424",
+            b"\x03\xe8",
+            -1_000_000,
+        ),
+        (
+            -1,
+            b"\x03\xed",
+            "512 weight 512 distance -256",
+            b"\x03\xec",
+            -1_005_000,
+        ),
+    ];
+    for (axis, sample, sums, seen, z) in table {
+        let line = format!(in alloc; "frame {axis} 0 0 0 0 1 0 0 0 0 {axis} 0\nP5\n1 1\n65535\n")?;
+        let mut text = scan(config(alloc, "", "")?, &[], line.as_str())?;
+        text.extend_from_slice(sample)?;
+        text.extend_from_slice(b"sum\nrender\npoints\nend\n")?;
+        let head = format!(in alloc;
+            "frame 1 blocks 2 resident 2\nsum blocks 2 known {sums}\nrender 1\nP5\n1 1\n65535\n"
+        )?;
+        let mut wanted = head.into_bytes();
+        wanted.extend_from_slice(seen)?;
+        wanted.extend_from_slice(
+            b"points 64\nply\nformat ascii 1.0\nelement vertex 64\nproperty int x\nproperty int y\nproperty int z\nend_header\n",
+        )?;
+        for i in 0..64_u32 {
+            let point = format!(in alloc; "{} {} {z}\n", i % 8 * 10_000, i / 8 % 8 * 10_000)?;
+            wanted.extend_from_slice(point.as_bytes())?;
+        }
+        wanted.extend_from_slice(END.as_bytes())?;
+        let (status, sink) = run_on(alloc, text, 7, Vec::new(alloc), Vec::new(alloc))?;
+        assert_eq!(rt; status, Status::Done);
+        assert_eq!(rt; sink.bytes(), wanted.as_slice());
+    }
+    Ok(())
+}
+
 #[test]
 fn scans_that_are_cut_off_end_there(rt: HostRuntime) -> Result<(), Fail> {
     let alloc = rt.alloc();

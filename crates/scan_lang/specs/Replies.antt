@@ -4,6 +4,8 @@ use Rattle.std.specs.List.{flat_map}
 use Rattle.std.specs.Fmt.{decimal, signed_decimal}
 use Rattle.depth_frame.specs.DepthMaps.{DepthMap}
 use Rattle.depth_frame.specs.Pgm.{pgm_text}
+use Rattle.crossing_export.specs.Ply.{ply_text}
+use Rattle.crossing_export.specs.declared.crossing.Crossing.{Crossing}
 use Rattle.scan_lang.specs.declared.reply.FrameDone.{FrameDone}
 use Rattle.scan_lang.specs.declared.reply.KnownVoxel.{KnownVoxel}
 use Rattle.scan_lang.specs.declared.reply.Place.{Place}
@@ -19,6 +21,10 @@ frame_text d = codes "frame " ++ decimal d.frame ++ codes " blocks " ++ decimal 
 -- the greatest number of active blocks, which the frame would exceed
 abbrev pub heap_text : (limit : ℕ) → List ℕ
 heap_text limit = codes "frame refused heap " ++ decimal limit ++ codes "\n"
+
+-- the number of blocks that were removed
+abbrev pub collected_text : (removed : ℕ) → List ℕ
+collected_text n = codes "collect " ++ decimal n ++ codes "\n"
 
 abbrev pub picture_head : (frames : ℕ) → List ℕ
 picture_head n = codes "render " ++ decimal n ++ codes "\n"
@@ -37,6 +43,13 @@ voxels_head b n = codes "voxels " ++ decimal b ++ codes " " ++ decimal n ++ code
 -- the numbers of blocks and of known voxels, and then a line for each of these
 abbrev pub voxels_text : (blocks : ℕ) → List KnownVoxel → List ℕ
 voxels_text b known = voxels_head b (length known) ++ flat_map voxel_line known
+
+abbrev pub points_head : (count : ℕ) → List ℕ
+points_head n = codes "points " ++ decimal n ++ codes "\n"
+
+-- the number of points, and then their file
+abbrev pub points_text : List Crossing → List ℕ
+points_text list = points_head (length list) ++ ply_text list
 
 -- the numbers of blocks and of known voxels
 abbrev pub counts_text : (blocks known : ℕ) → List ℕ
@@ -63,9 +76,11 @@ text_of replies.Size = codes "frame refused size\n"
 text_of replies.PoseRange = codes "frame refused pose range\n"
 text_of replies.PoseRotation = codes "frame refused pose rotation\n"
 text_of (replies.HeapSpent limit) = heap_text limit
+text_of (replies.Collected removed) = collected_text removed
 text_of (replies.Picture frames picture) = picture_text frames picture
 text_of replies.NoFrame = codes "render refused no frame\n"
 text_of (replies.Voxels blocks known) = voxels_text blocks known
+text_of (replies.Points points) = points_text points
 text_of (replies.Totals totals) = totals_text totals
 text_of (replies.Place place) = place_text place
 text_of replies.End = codes "end\n"

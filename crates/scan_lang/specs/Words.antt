@@ -10,7 +10,7 @@ use Rattle.scan_io.specs.Steps.{◌>>=◌}
 use Rattle.scan_lang.specs.declared.error.BadScan.{BadScan}
 use Rattle.scan_lang.specs.declared.error.BadWhat.TheVariants.{Line, Number}
 use Rattle.scan_lang.specs.declared.entry.Entry.{Entry}
-use Rattle.scan_lang.specs.declared.entry.Entry.TheVariants.{Render, Voxels, Sum, Place, End}
+use Rattle.scan_lang.specs.declared.entry.Entry.TheVariants.{Collect, Render, Voxels, Points, Sum, Place, End}
 use Rattle.scan_lang.specs.declared.head.Head.{Head}
 use Rattle.scan_lang.specs.declared.head.Head.TheVariants.{Frame, Whole}
 use Rattle.scan_lang.specs.Coordinates.{coordinate_of}
@@ -91,8 +91,10 @@ place_head offset ws = no_record offset
 -- the record that is one word
 abbrev pub one_word : (word : List ℕ) → Option Entry
 one_word word =
-    if bytes_eq word (codes "render") then Some Render
+    if bytes_eq word (codes "collect") then Some Collect
+    else if bytes_eq word (codes "render") then Some Render
     else if bytes_eq word (codes "voxels") then Some Voxels
+    else if bytes_eq word (codes "points") then Some Points
     else if bytes_eq word (codes "sum") then Some Sum
     else if bytes_eq word (codes "end") then Some End
     else None

@@ -9,10 +9,14 @@ use voxel_block::BlockKey;
 pub enum Entry {
     /// The first three rows of a camera-to-world matrix, and the depth map that was taken there.
     Frame(PoseRows, DepthFrame),
+    /// A request to remove the blocks that hold no surface.
+    Collect,
     /// A request for a picture of the map from the last accepted frame's pose.
     Render,
     /// A request for all known voxels.
     Voxels,
+    /// A request for the surface's points.
+    Points,
     /// A request for totals over the map.
     Sum,
     /// A request for the place of a block.

@@ -16,7 +16,7 @@ pub use config::{BadConfig, Config, ConfigError, ConfigFields, read_config};
 pub use entry::Entry;
 pub use error::{BadScan, BadWhat, ScanError};
 pub use reader::ScanReader;
-pub use reply::{FrameDone, KnownVoxel, Place, Reply, Totals, VoxelList, reply_bytes};
+pub use reply::{FrameDone, KnownVoxel, Place, PointList, Reply, Totals, VoxelList, reply_bytes};
 
 #[cfg(test)]
 mod tests;

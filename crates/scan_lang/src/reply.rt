@@ -1,7 +1,8 @@
 ghost use Rattle.std.specs.Prelude.{◌≡◌, ◌++◌, ◌∷◌, [], IfOk, OnOk};
 ghost use Rattle.std.specs.Fmt.{signed_decimal};
-ghost use Rattle.scan_lang.specs.Replies.{text_of, frame_text, heap_text, picture_text, picture_head as picture_head_of, place_text, counts_text, sums_text, totals_text, voxels_text, voxels_head as voxels_head_of, voxel_line};
+ghost use Rattle.scan_lang.specs.Replies.{text_of, frame_text, heap_text, collected_text, picture_text, picture_head as picture_head_of, points_text, points_head as points_head_of, place_text, counts_text, sums_text, totals_text, voxels_text, voxels_head as voxels_head_of, voxel_line};
 
+use crossing_export::{Crossing, append_ply};
 use depth_frame::{DepthFrame, pgm_bytes};
 use itoa::Buffer;
 use std::alloc::{AllocError, Global};
@@ -85,6 +86,37 @@ impl VoxelList {
     }
 }
 
+/// A list of the surface's points.
+#[derive(Drop)]
+pub struct PointList {
+    items: Vec<Crossing>,
+}
+
+impl Model for PointList {
+    ghost use Rattle.std.specs.Prelude.{List};
+    ghost use Rattle.crossing_export.specs.declared.crossing.Crossing.{Crossing as Point};
+
+    ghost Value = { List Point };
+
+    ghost view = { λ l. l.items.items };
+}
+
+impl PointList {
+    /// A list of these points.
+    pub fn make(items: Vec<Crossing>) -> PointList
+        ensures { result ≡ items.items }
+    {
+        PointList { items }
+    }
+
+    /// The points.
+    pub fn items(&self) -> &[Crossing]
+        ensures { result.now ≡ self.now }
+    {
+        self.items.as_slice()
+    }
+}
+
 /// A reply to a record.
 #[derive(Drop)]
 pub enum Reply {
@@ -98,12 +130,16 @@ pub enum Reply {
     PoseRotation,
     /// A frame was refused: more than this number of blocks would be active.
     HeapSpent(u32),
+    /// The number of blocks that were removed.
+    Collected(u64),
     /// The number of accepted frames, and the picture of the map from the last one's pose.
     Picture(u64, DepthFrame),
     /// There is no picture: no frame was accepted yet.
     NoFrame,
     /// The number of blocks, and all known voxels.
     Voxels(u64, VoxelList),
+    /// The surface's points.
+    Points(PointList),
     /// Totals over the map.
     Totals(Totals),
     /// The place of a block.
@@ -131,9 +167,11 @@ fn written(alloc: Global, reply: &Reply) -> Result<Vec<u8>, AllocError>
         Reply::PoseRange => b"frame refused pose range\n".to_vec(alloc),
         Reply::PoseRotation => b"frame refused pose rotation\n".to_vec(alloc),
         Reply::HeapSpent(limit) => heap_bytes(alloc, *limit),
+        Reply::Collected(removed) => collected_bytes(alloc, *removed),
         Reply::Picture(frames, picture) => picture_bytes(alloc, *frames, picture),
         Reply::NoFrame => b"render refused no frame\n".to_vec(alloc),
         Reply::Voxels(blocks, known) => voxels_bytes(alloc, *blocks, known.items()),
+        Reply::Points(points) => points_bytes(alloc, points.items()),
         Reply::Totals(totals) => totals_bytes(alloc, totals),
         Reply::Place(place) => place_bytes(alloc, *place),
         Reply::End => b"end\n".to_vec(alloc),
@@ -152,6 +190,13 @@ fn heap_bytes(alloc: Global, limit: u32) -> Result<Vec<u8>, AllocError>
     ensures { IfOk result (λ v. v.items ≡ heap_text limit) }
 {
     let text = format!(in alloc; "frame refused heap {limit}\n")?;
+    Ok(text.into_bytes())
+}
+
+fn collected_bytes(alloc: Global, removed: u64) -> Result<Vec<u8>, AllocError>
+    ensures { IfOk result (λ v. v.items ≡ collected_text removed) }
+{
+    let text = format!(in alloc; "collect {removed}\n")?;
     Ok(text.into_bytes())
 }
 
@@ -220,6 +265,21 @@ fn voxels_head(alloc: Global, blocks: u64, known: usize) -> Result<Vec<u8>, Allo
     ensures { IfOk result (λ v. v.items ≡ voxels_head_of blocks known) }
 {
     let text = format!(in alloc; "voxels {blocks} {known}\n")?;
+    Ok(text.into_bytes())
+}
+
+fn points_bytes(alloc: Global, points: &[Crossing]) -> Result<Vec<u8>, AllocError>
+    ensures { IfOk result (λ v. v.items ≡ points_text points.now) }
+{
+    let mut bytes = points_head(alloc, points.len())?;
+    append_ply(&mut bytes, points)?;
+    Ok(bytes)
+}
+
+fn points_head(alloc: Global, count: usize) -> Result<Vec<u8>, AllocError>
+    ensures { IfOk result (λ v. v.items ≡ points_head_of count) }
+{
+    let text = format!(in alloc; "points {count}\n")?;
     Ok(text.into_bytes())
 }
 

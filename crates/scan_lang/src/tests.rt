@@ -2,6 +2,7 @@ use super::*;
 use crate::BadConfig::{Field, Json, Names, Reach, Sphere};
 use crate::BadWhat::{Line, Lines, Long, Number, Short};
 use camera::CameraFields;
+use crossing_export::Crossing;
 use depth_frame::{DepthFrame, PgmKind};
 use fixed_geom::Vec3;
 use scan_io::MemSource;
@@ -19,8 +20,10 @@ const FRAME: &[u8] = b"\nframe 1 0 0 0 0 1 0 0 0 0 1 0\n";
 #[derive(Clone, Copy, Debug, PartialEq, Eq)]
 enum Seen {
     Frame([i64; 9], Vec3, Option<u16>),
+    Collect,
     Render,
     Voxels,
+    Points,
     Sum,
     Place(BlockKey),
     End,
@@ -34,8 +37,10 @@ fn summary(entry: Entry) -> Seen {
         Entry::Frame(rows, depths) => {
             Seen::Frame(rows.r, rows.t, depths.samples().first().copied())
         }
+        Entry::Collect => Seen::Collect,
         Entry::Render => Seen::Render,
         Entry::Voxels => Seen::Voxels,
+        Entry::Points => Seen::Points,
         Entry::Sum => Seen::Sum,
         Entry::Place(key) => Seen::Place(key),
         Entry::End => Seen::End,
@@ -101,13 +106,15 @@ fn records_are_read_in_pieces(rt: HostRuntime) -> Result<(), Fail> {
         z: 0,
     };
     let rest =
-        b"\nframe 1.0000000000000000000e+00 0 0 .5 0 1 0 0.0000005 0 0 1 -0.0000005\nP5\n1 1\n65535\n\x03\xE8\n\n \t\r\n\t sum\r\nvoxels\t \n render\r\nplace -32768 32767 -0\nend\nend now\n";
+        b"\nframe 1.0000000000000000000e+00 0 0 .5 0 1 0 0.0000005 0 0 1 -0.0000005\nP5\n1 1\n65535\n\x03\xE8\n\n \t\r\n\t sum\r\nvoxels\t \ncollect\n render\r\n points \nplace -32768 32767 -0\nend\nend now\n";
     let text = scan(alloc, ("{", "{"), rest, 0, b' ')?;
     let all = vec![in alloc;
         Seen::Frame(rows, place, Some(1000)),
         Seen::Sum,
         Seen::Voxels,
+        Seen::Collect,
         Seen::Render,
+        Seen::Points,
         Seen::Place(BlockKey {
             x: i16::MIN,
             y: i16::MAX,
@@ -153,13 +160,16 @@ fn a_bad_first_line_is_refused_at_its_offset(rt: HostRuntime) -> Result<(), Fail
 fn a_bad_record_is_refused_at_its_offset(rt: HostRuntime) -> Result<(), Fail> {
     let alloc = rt.alloc();
     let (magic, header) = (BadWhat::Pgm(PgmKind::Magic), BadWhat::Pgm(PgmKind::Header));
-    let cases: [(&str, &[u8], u64, BadWhat); 17] = [
+    let cases: [(&str, &[u8], u64, BadWhat); 20] = [
         ("an unknown word", b"frames 1\n", 233, Line),
         ("after blank lines", b"\n \n\rsums\n", 236, Line),
         ("a word after end", b"end now\n", 233, Line),
         ("a word after sum", b"sum 1\n", 233, Line),
         ("a word after render", b"render x\n", 233, Line),
+        ("a word after collect", b"collect 1\n", 233, Line),
+        ("a word after points", b"points 1\n", 233, Line),
         ("a capital", b"Render\n", 233, Line),
+        ("a capital", b"Collect\n", 233, Line),
         ("a sign alone", b"+\n", 233, Line),
         ("no line feed", b"voxels", 239, Short),
         ("eleven words", b"frame 1 0 x 0 0 1 0 0 0 0 1\n", 233, Line),
@@ -368,17 +378,28 @@ fn the_base_line_is_a_configuration(rt: HostRuntime) -> Result<(), Fail> {
     Ok(())
 }
 
-// A picture of two rows, whose samples are written with the most significant byte first.
+// The picture has two rows, whose samples are written with the most significant byte first.
 #[test]
-fn a_picture_is_written_as_a_pgm_file(rt: HostRuntime) -> Result<(), Fail> {
+fn replies_have_these_bytes(rt: HostRuntime) -> Result<(), Fail> {
     let alloc = rt.alloc();
     let raw = vec![in alloc; 1000, 65535, 0, 10]?;
-    let cases: [(Reply, &[u8]); 2] = [
+    let none = Vec::new(alloc);
+    let one = Vec::from_array(alloc, [Crossing { x: 1, y: -2, z: 3 }])?;
+    let cases: [(Reply, &[u8]); 5] = [
         (
             Reply::Picture(12, DepthFrame::make(2, 2, raw)),
             b"render 12\nP5\n2 2\n65535\n\x03\xE8\xFF\xFF\0\0\0\n",
         ),
         (Reply::NoFrame, b"render refused no frame\n"),
+        (Reply::Collected(3), b"collect 3\n"),
+        (
+            Reply::Points(PointList::make(one)),
+            b"points 1\nply\nformat ascii 1.0\nelement vertex 1\nproperty int x\nproperty int y\nproperty int z\nend_header\n1 -2 3\n",
+        ),
+        (
+            Reply::Points(PointList::make(none)),
+            b"points 0\nply\nformat ascii 1.0\nelement vertex 0\nproperty int x\nproperty int y\nproperty int z\nend_header\n",
+        ),
     ];
     for (reply, bytes) in cases {
         let written = reply_bytes(alloc, &reply)?;

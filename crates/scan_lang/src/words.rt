@@ -70,11 +70,17 @@ fn read_record(offset: u64, line: &[u8], word: Span) -> Result<Head, BadScan>
 fn one_word(word: &[u8]) -> Option<Entry>
     ensures { result ≡ record_of word.now }
 {
+    if word == b"collect".as_slice() {
+        return Some(Entry::Collect);
+    }
     if word == b"render".as_slice() {
         return Some(Entry::Render);
     }
     if word == b"voxels".as_slice() {
         return Some(Entry::Voxels);
+    }
+    if word == b"points".as_slice() {
+        return Some(Entry::Points);
     }
     if word == b"sum".as_slice() {
         return Some(Entry::Sum);

@@ -1,6 +1,6 @@
 -- The known voxels of a block and of a map that are still to come.
-use Rattle.std.proofs.Common.{◌≡◌, ℕ, false, zero, suc, ◌+◌, List, [], ◌∷◌, ◌++◌, length, drop, refl, sym, ap, ◌∙◌, arith, append_assoc, append-nil}
-use Rattle.std.specs.Prelude.{Option, Some, None, is_some, slice_get, option_to_list}
+use Rattle.std.proofs.Common.{◌≡◌, ℕ, zero, suc, ◌+◌, List, [], ◌∷◌, ◌++◌, length, drop, refl, sym, ap, ◌∙◌, arith, append_assoc, append-nil}
+use Rattle.std.specs.Prelude.{Option, Some, None, slice_get, option_to_list}
 use Rattle.std.specs.List.{flat_map, filter_map, enumerate_from, cons_option}
 use Rattle.voxel_block.specs.declared.key.BlockKey.{BlockKey}
 use Rattle.voxel_block.specs.declared.voxel.Voxel.{Voxel}
@@ -8,8 +8,6 @@ use Rattle.scan_lang.specs.declared.reply.KnownVoxel.{KnownVoxel}
 use Rattle.std.specs.FinMap.{get, keys, entries}
 use Rattle.session.specs.Fold.{known_at, known_in, known_voxels}
 use Rattle.fusion_core.specs.Maps.{BlockMap}
-use Rattle.streamer.specs.Places.{Places, blocks_of, cell_of, in_heap}
-use Rattle.streamer.proofs.Blocks.{get-resident, get-stored, in_store}
 use Rattle.session.specs.Sums.{known_among, known_in_option}
 use Rattle.fusion_core.proofs.KeyLemmas.{entries_by_keys, marked}
 use Rattle.fusion_core.proofs.MapLemmas.{pairs_of}
@@ -66,25 +64,3 @@ pushed out new more rest left all next is h = ap (λ o. o ++ rest) is ∙ append
 
 pub all_pushed : {X : Type 0} (out left all : List X) → left ≡ [] → out ++ left ≡ all → out ≡ all
 all_pushed out left all none h = sym (append-nil out) ∙ ap (λ xs. out ++ xs) (sym none) ∙ h
-
--- ---- the block of a key
-
--- what is told of a key whose block is lent
-pub lent_told : (p : Places) (k : BlockKey) (v : List Voxel) → Some v ≡ in_heap p.heap (cell_of p.table k) → get (blocks_of p) k ≡ Some v
-lent_told p k v is = by (cell_of p.table k) refl
-  where
-    by : (c : Option ℕ) → cell_of p.table k ≡ c → get (blocks_of p) k ≡ Some v
-    by None e = absurd (let z : ◌≡◌ {A = Option (List Voxel)} (Some v) None = is ∙ ap (in_heap p.heap) e in cc)
-    by (Some n) e = get-resident p k n e ∙ sym (is ∙ ap (in_heap p.heap) e)
-
--- and of one that lies in neither place
-pub none_told : (p : Places) (k : BlockKey) → None ≡ in_heap p.heap (cell_of p.table k) → is_some (get p.store.contents k) ≡ false → get (blocks_of p) k ≡ None
-none_told p k out unstored = by (cell_of p.table k) refl
-  where
-    gone : (o : Option (List ℕ)) → is_some o ≡ false → in_store o ≡ None
-    gone None e = refl
-    gone (Some x) e = absurd (cc)
-
-    by : (c : Option ℕ) → cell_of p.table k ≡ c → get (blocks_of p) k ≡ None
-    by None e = get-stored p k e ∙ gone (get p.store.contents k) unstored
-    by (Some n) e = absurd (let z : ◌≡◌ {A = Option (List Voxel)} None (in_heap p.heap (Some n)) = out ∙ ap (in_heap p.heap) e in cc)

@@ -1,8 +1,11 @@
+mod CollectedLemmas
+mod CollectingLemmas
 mod CountLemmas
 mod FrameLemmas
 mod FusingLemmas
 mod KnownLemmas
 mod MovingLemmas
+mod PointLemmas
 mod Powers
 mod RoomLemmas
 mod StandingLemmas

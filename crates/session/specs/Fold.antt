@@ -1,19 +1,22 @@
 -- What a scan's entries do, one after another, and what is answered.
-use Rattle.std.specs.Prelude.{ℕ, ◌-◌, ◌^◌, nat_lt, ℤ, pos, neg_ℤ, ◌+ℤ◌, Bool, false, if◌then◌else◌, List, length, Option, None, Some, Result, Ok, Err}
+use Rattle.std.specs.Prelude.{ℕ, ◌-◌, ◌^◌, ℤ, pos, neg_ℤ, ◌+ℤ◌, Bool, false, not, ◌&&◌, if◌then◌else◌, List, length, Option, None, Some, Result, Ok, Err}
 use Rattle.std.specs.Int.{int_min, int_max}
 use Rattle.std.specs.List.{flat_map, filter_map, enumerate_from, sum_by, fold}
-use Rattle.std.specs.FinMap.{contains_key, len, entries}
+use Rattle.std.specs.FinMap.{contains_key, get, len, entries, retain_keys}
 use Rattle.fixed_geom.specs.Poses.{Pose}
 use Rattle.fixed_geom.specs.declared.pose.PoseRows.{PoseRows}
 use Rattle.fixed_geom.specs.declared.pose.BadPose.TheVariants as poses
 use Rattle.voxel_block.specs.declared.key.BlockKey.{BlockKey}
 use Rattle.voxel_block.specs.declared.voxel.Voxel.{Voxel}
+use Rattle.voxel_block.specs.Voxels.{is_known}
 use Rattle.depth_frame.specs.DepthMaps.{DepthMap}
 use Rattle.camera.specs.declared.camera.CameraFields.{CameraFields}
 use Rattle.camera.specs.Cameras.{is_active}
 use Rattle.camera.specs.Grid.{voxel_coordinates}
 use Rattle.scan_io.specs.Reading.{saturated}
 use Rattle.scan_io.specs.Steps.{◌>>=◌}
+use Rattle.collector.specs.Empty.{is_empty_block}
+use Rattle.crossing_export.specs.Crossings.{crossings}
 use Rattle.fusion_core.specs.declared.settings.Settings.{Settings}
 use Rattle.fusion_core.specs.declared.refusal.Refusal.{Refusal}
 use Rattle.fusion_core.specs.declared.refusal.Refusal.TheVariants.{Size, BadPose, HeapSpent}
@@ -58,10 +61,6 @@ frame_reply (Err why) = refusal_reply why
 
 -- ---- known voxels
 
--- a voxel is known where its weight is above 0
-abbrev pub is_known : Voxel → Bool
-is_known v = nat_lt 0 v.w
-
 -- the voxel of index i of a block, with its coordinates in the whole grid
 abbrev pub voxel_in : BlockKey → (i : ℕ) → Voxel → KnownVoxel
 voxel_in b i v = record { x = (voxel_coordinates b i).x; y = (voxel_coordinates b i).y; z = (voxel_coordinates b i).z; f = v.f; w = v.w }
@@ -103,6 +102,25 @@ place_in c s b =
     if contains_key s.blocks b then (if is_active_last c.camera s.last b then places.Heap else places.Store)
     else places.Nowhere
 
+-- ---- collection
+
+-- whether a block, if there is one, is empty
+abbrev pub is_empty_at : (empty_f : ℤ) → Option (List Voxel) → Bool
+is_empty_at e None = false
+is_empty_at e (Some voxels) = is_empty_block e voxels
+
+-- whether a collection removes the block of a key: it is active for the last frame, and empty
+abbrev pub is_collected : Config → State → BlockKey → Bool
+is_collected c s b = is_active_last c.camera s.last b && is_empty_at c.empty_f (get s.blocks b)
+
+-- the state after a collection: its map has no block that is empty and active for the last frame
+unfoldable pub collected : Config → State → State
+collected c s = record { blocks = retain_keys s.blocks (λ b. not (is_collected c s b)); frames = s.frames; last = s.last }
+
+-- how many blocks a collection removes
+abbrev pub collected_count : Config → State → ℕ
+collected_count c s = len s.blocks - len (collected c s).blocks
+
 -- ---- pictures
 
 -- the picture of the map from the last frame's pose; there is none where there is no last frame
@@ -123,8 +141,10 @@ picture_reply n (Some image) = replies.Picture n image
 -- the state after an entry
 abbrev pub after : Config → State → Entry → State
 after c s (entry.Frame rows depths) = after_frame s (judged (settings_of c) s rows depths)
+after c s entry.Collect = collected c s
 after c s entry.Render = s
 after c s entry.Voxels = s
+after c s entry.Points = s
 after c s entry.Sum = s
 after c s (entry.Place b) = s
 after c s entry.End = s
@@ -132,8 +152,10 @@ after c s entry.End = s
 -- the reply to an entry at a state
 abbrev pub reply_to : Config → State → Entry → Reply
 reply_to c s (entry.Frame rows depths) = frame_reply (frame_answer c s rows depths)
+reply_to c s entry.Collect = replies.Collected (collected_count c s)
 reply_to c s entry.Render = picture_reply s.frames (picture_at c s)
 reply_to c s entry.Voxels = replies.Voxels (len s.blocks) (known_voxels s.blocks)
+reply_to c s entry.Points = replies.Points (crossings s.blocks c.camera.voxel)
 reply_to c s entry.Sum = replies.Totals (totals_of s.blocks)
 reply_to c s (entry.Place b) = replies.Place (place_in c s b)
 reply_to c s entry.End = replies.End

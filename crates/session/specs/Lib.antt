@@ -1,5 +1,6 @@
 pub mod Answers
 pub mod Codes
+pub mod Collecting
 pub mod Fold
 pub mod Output
 pub mod Rooms

@@ -9,16 +9,20 @@ ghost use Rattle.scan_io.specs.Reading.{UnlessOutOfMemory};
 ghost use Rattle.fusion_core.specs.Fold.{start as first_state, has_size};
 ghost use Rattle.scan_lang.specs.declared.entry.Entry.TheVariants as entries;
 ghost use Rattle.session.specs.Answers.{frame_cause, session_of, state_of};
-ghost use Rattle.session.specs.Fold.{after, frame_answer, known_voxels as known_voxels_of, picture_at, place_in, settings_of, totals_of};
+ghost use Rattle.crossing_export.specs.Crossings.{crossings};
+ghost use Rattle.session.specs.Fold.{after, collected, collected_count, frame_answer, known_voxels as known_voxels_of, picture_at, place_in, settings_of, totals_of};
 ghost use Rattle.session.specs.Rooms.{StaysPut};
 ghost use Rattle.session.specs.Standing.{IsScratchOf, IsSettled, Stands};
 
+use crate::collecting::collect_empty;
 use crate::error::{FrameError, ReadError, RenderError};
 use crate::fusing::fuse;
 use crate::known::known_voxels;
+use crate::points::surface_points;
 use crate::room::make_room;
 use crate::scratch::Scratch;
 use crate::totals::totals;
+use crossing_export::Crossing;
 use depth_frame::DepthFrame;
 use fixed_geom::{BadPose, Pose, PoseRows};
 use fusion_core::{Frame, Settings};
@@ -101,6 +105,20 @@ pub fn fuse_frame(
     })
 }
 
+/// Removes the empty blocks that are active for the last frame from the map, and returns their number. Takes no memory.
+pub fn collect_blocks(config: &Config, map: &mut FusedMap) -> u64
+    requires { IsSettled (session_of config.now map.old) }
+    ensures count { result ≡ collected_count config.now (state_of (session_of config.now map.old)) }
+    ensures state { state_of (session_of config.now map.new) ≡ collected config.now (state_of (session_of config.now map.old)) }
+    ensures store { map.new.rest.store ≡ map.old.rest.store }
+    ensures frames { map.new.frames ≡ map.old.frames }
+    ensures last { map.new.last ≡ map.old.last }
+    ensures settled { IsSettled (session_of config.now map.new) }
+    ensures stands { Stands (session_of config.now map.new) }
+{
+    u64::from(collect_empty(&mut map.rest, config.empty_f()))
+}
+
 /// The number of blocks, and all known voxels in the order of keys and indices.
 pub fn read_voxels(
     alloc: Global,
@@ -114,6 +132,20 @@ pub fn read_voxels(
 {
     let known = known_voxels(alloc, &map.rest)?;
     Ok((map.rest.len(), known))
+}
+
+/// The surface points in the order of keys, indices and axes.
+pub fn read_points(
+    alloc: Global,
+    config: &Config,
+    map: &FusedMap,
+) -> Result<Vec<Crossing>, ReadError>
+    requires { IsSettled (session_of config.now map.now) }
+    ensures points { IfOk result (λ v. v.items ≡ crossings (state_of (session_of config.now map.now)).blocks config.now.camera.voxel) }
+    ensures stands { Stands (session_of config.now map.now) }
+{
+    let points = surface_points(alloc, &map.rest, config.camera().fields().voxel)?;
+    Ok(points)
 }
 
 /// The picture from the pose of the last accepted frame.

@@ -46,15 +46,9 @@ fn push_known(
 ) -> Result<(), AllocError>
     ensures { OnOk result (known.new.items ≡ known.old.items ++ known_in_option key (get (blocks_of rest.now) key)) }
 {
-    match rest.lend(key) {
+    match rest.read(key, scratch) {
         Some(block) => push_block(known, key, block),
-        None => {
-            if rest.unpack(key, scratch) {
-                push_block(known, key, scratch)
-            } else {
-                Ok(())
-            }
-        }
+        None => Ok(()),
     }
 }
 
@@ -86,7 +80,7 @@ pub fn known_at(key: BlockKey, i: u16, voxel: Voxel) -> Option<KnownVoxel>
     requires { i < 512 }
     ensures { result ≡ known_at_of key i voxel }
 {
-    if voxel.w == 0 {
+    if !voxel.is_known() {
         return None;
     }
     Some(KnownVoxel {

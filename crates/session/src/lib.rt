@@ -1,11 +1,13 @@
 //! The map that a scan's frames are fused into, and the answer to each record.
 #![tactic(auto)]
 
+mod collecting;
 mod error;
 mod fused_map;
 mod fusing;
 mod known;
 mod moving;
+mod points;
 mod room;
 mod scratch;
 mod session;

@@ -8,15 +8,18 @@ ghost use Rattle.scan_io.specs.Reading.{UnlessOutOfMemory};
 ghost use Rattle.fusion_core.specs.Fold.{start as first_state, has_size};
 ghost use Rattle.scan_lang.specs.declared.entry.Entry.TheVariants as entries;
 ghost use Rattle.session.specs.Answers.{frame_cause, state_of};
-ghost use Rattle.session.specs.Fold.{after, frame_answer, known_voxels as known_voxels_of, picture_at, place_in, totals_of};
+ghost use Rattle.crossing_export.specs.Crossings.{crossings};
+ghost use Rattle.session.specs.Fold.{after, collected, collected_count, frame_answer, known_voxels as known_voxels_of, picture_at, place_in, totals_of};
 ghost use Rattle.session.specs.Rooms.{StaysPut};
 ghost use Rattle.session.specs.Standing.{Stands};
 
 use crate::error::{FrameError, ReadError, RenderError};
 use crate::fused_map::{
-    FusedMap, Picture, find_place, first_map, fuse_frame, read_picture, read_totals, read_voxels,
+    FusedMap, Picture, collect_blocks, find_place, first_map, fuse_frame, read_picture,
+    read_points, read_totals, read_voxels,
 };
 use crate::scratch::Scratch;
+use crossing_export::Crossing;
 use depth_frame::DepthFrame;
 use fixed_geom::{BadPose, PoseRows};
 use scan_lang::{Config, FrameDone, KnownVoxel, Place, Totals};
@@ -96,6 +99,24 @@ impl Session {
         )
     }
 
+    /// Removes the blocks that hold no surface from the map, among those that are active for the last frame, and returns
+    /// their number: those where no known voxel has a distance whose size is below the configuration's `empty_f`
+    /// (after Nießner, Zollhöfer, Izadi and Stamminger 2013).
+    ///
+    /// Before the first frame there is none. No memory is taken, and there is no error.
+    pub fn collect(&mut self) -> Result<u64, NoMemory>
+        ensures count { IfOk result (λ n. n ≡ collected_count self.old.config (state_of self.old)) }
+        ensures done { IsOk result }
+        ensures state { state_of self.new ≡ collected self.old.config (state_of self.old) }
+        ensures config { self.new.config ≡ self.old.config }
+        ensures store { self.new.places.store ≡ self.old.places.store }
+        ensures frames { self.new.frames ≡ self.old.frames }
+        ensures last { self.new.last ≡ self.old.last }
+        ensures stands { Stands self.new }
+    {
+        Ok(collect_blocks(&self.config, &mut self.map))
+    }
+
     /// The picture that the camera would take of the map from the pose of the last accepted frame: of each pixel the
     /// depth of the first surface on its ray, in raw samples of the configuration's unit, and 0 where there is none.
     pub fn render(&self, alloc: Global) -> Result<Picture, RenderError>
@@ -119,6 +140,19 @@ impl Session {
         ensures stands { Stands self.new }
     {
         read_voxels(alloc, &self.config, &self.map)
+    }
+
+    /// The points of the surface, in the order of keys, indices and axes: along each axis, where the distance goes
+    /// through 0 between a known voxel and the next one.
+    pub fn points(&mut self, alloc: Global) -> Result<Vec<Crossing>, ReadError>
+        ensures points { IfOk result (λ v. v.items ≡ crossings (state_of self.old).blocks self.old.config.camera.voxel) }
+        ensures config { self.new.config ≡ self.old.config }
+        ensures places { self.new.places ≡ self.old.places }
+        ensures frames { self.new.frames ≡ self.old.frames }
+        ensures last { self.new.last ≡ self.old.last }
+        ensures stands { Stands self.new }
+    {
+        read_points(alloc, &self.config, &self.map)
     }
 
     /// Totals over the map. They take no memory, and there is no error.

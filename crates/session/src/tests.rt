@@ -4,6 +4,7 @@ ghost use Rattle.session.specs.Answers.{state_of};
 ghost use Rattle.session.specs.Fold.{after, known_voxels};
 
 use super::*;
+use crossing_export::Crossing;
 use depth_frame::DepthFrame;
 use fixed_geom::{BadPose, PoseRows, Vec3};
 use scan_lang::{FrameDone, KnownVoxel, Place, Totals, read_config};
@@ -278,6 +279,102 @@ fn a_picture_is_taken_from_the_last_accepted_pose(rt: HostRuntime) {
             assert!(rt; fuse_all(alloc, &mut session, shots));
             let wanted = answer.map(|(frame, sample)| (frame, (1, 1), Some(sample)));
             assert_eq!(rt; picture(alloc, &session), wanted, "{}", name);
+        }
+    }
+}
+
+// Of a wall's two blocks the one behind it has the distance -32767 at 64 voxels, and no other known voxel.
+#[test]
+fn empty_active_blocks_are_collected(rt: HostRuntime) {
+    let alloc = rt.alloc();
+    let far: Shot = (AHEAD, 50_000_000, 1, 1000);
+    let cases: [(&str, &[Shot], u64, (u64, u64, u64, i64)); 5] = [
+        ("before the first frame", &[], 0, (0, 0, 0, 0)),
+        ("a wall", &[WALL], 1, (1, 512, 512, 2096896)),
+        ("a wall twice", &[WALL, WALL], 1, (1, 512, 1024, 2096896)),
+        (
+            "from far away",
+            &[WALL, NOTHING_FAR_AWAY],
+            0,
+            (2, 576, 576, -192),
+        ),
+        ("a wall far away", &[WALL, far], 1, (3, 1088, 1088, 2096704)),
+    ];
+    for (name, shots, removed, (blocks, known, weight, distance)) in cases {
+        let session = session(alloc, 2);
+        assert!(rt; session.is_some());
+        if let Some(mut session) = session {
+            assert!(rt; fuse_all(alloc, &mut session, shots));
+            let totals = Totals {
+                blocks,
+                known,
+                weight,
+                distance,
+            };
+            assert_eq!(rt; session.collect(), Ok(removed), "{}", name);
+            assert_eq!(rt; session.totals(), Ok(totals), "{}", name);
+            assert_eq!(rt; session.collect(), Ok(0), "{}", name);
+        }
+    }
+}
+
+// How many points the surface has, and the first and the last of them.
+fn ends_of_points(
+    alloc: Global,
+    session: &mut Session,
+) -> Option<(usize, Option<Crossing>, Option<Crossing>)> {
+    let points = session.points(alloc).ok()?;
+    Some((
+        points.len(),
+        points.first().copied(),
+        points.last().copied(),
+    ))
+}
+
+// A wall has a point for each of the 64 voxels of a block that lie side by side.
+#[test]
+fn a_wall_has_points_wherever_its_blocks_lie(rt: HostRuntime) {
+    let alloc = rt.alloc();
+    let cases: [(&str, &[Shot], Option<i32>); 5] = [
+        ("before the first frame", &[], None),
+        ("between two values", &[WALL], Some(1_000_000)),
+        // 10000 * 4095 / 8191 behind the voxel at 1 m.
+        ("rounded down", &[(AHEAD, 0, 1, 1005)], Some(1_004_999)),
+        // From the last voxels of a block to the first ones of the next.
+        (
+            "between two blocks",
+            &[(AHEAD, 0, 1, 1035)],
+            Some(1_034_999),
+        ),
+        (
+            "in the store",
+            &[(AHEAD, 0, 1, 1035), NOTHING_FAR_AWAY],
+            Some(1_034_999),
+        ),
+    ];
+    for (name, shots, depth) in cases {
+        let session = session(alloc, 64);
+        assert!(rt; session.is_some());
+        if let Some(mut session) = session {
+            assert!(rt; fuse_all(alloc, &mut session, shots));
+            let wanted = match depth {
+                Some(z) => (
+                    64,
+                    Some(Crossing { x: 0, y: 0, z }),
+                    Some(Crossing {
+                        x: 70000,
+                        y: 70000,
+                        z,
+                    }),
+                ),
+                None => (0, None, None),
+            };
+            assert_eq!(rt;
+                ends_of_points(alloc, &mut session),
+                Some(wanted),
+                "{}",
+                name
+            );
         }
     }
 }
