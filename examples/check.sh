@@ -89,7 +89,7 @@ for scan in "$here"/*.scan; do
   cp "${scan%.scan}.out" "$t/want"
   run "the example $(basename "$scan")" 0 '' fuse <"$scan"
 done
-for name in typed wall turned place render; do
+for name in typed wall turned place render points; do
   python3 "$here/expected.py" <"$here/$name.scan" | cmp -s - "$here/$name.out"
   verdict "expected.py computes $name.out" $?
 done
@@ -156,6 +156,10 @@ python3 "$here/tum.py" "$t/recording" --config "$t/config" --frames 1 >"$t/one.s
 verdict 'tum.py gives as many frames as are asked for, and the samples of the PNG' $?
 python3 "$here/tum.py" "$t/recording" --config "$t/config" --ask render >"$t/render.scan"
 evaluated 'a picture of a recording' "$t/render.scan"
+python3 "$here/tum.py" "$t/recording" --config "$t/config" --collect 1 --ask points >"$t/points.scan"
+evaluated 'points of a recording, with a collection after each frame' "$t/points.scan"
+[ "$(grep -c '^collect' "$t/out")" = 2 ] && grep -q '^points [1-9]' "$t/out"
+verdict 'tum.py asks for collections and points' $?
 refuses 'tum.py refuses a folder that is none' "$here/tum.py" "$t/nothing"
 refuses 'tum.py refuses depth maps of another size' "$here/tum.py" "$t/recording"
 head -c 60 "$t/recording/depth/0.png" >"$t/recording/depth/1.png"
@@ -176,15 +180,54 @@ refuses 'view.py refuses a render that is cut off' "$here/view.py" "$t/cut.out" 
 { head -n 1 "$here/typed.scan"; printf 'render\nend\n'; } >"$t/render.scan"
 evaluated 'a render before the first frame' "$t/render.scan"
 
+# The surface's points, and collections.
+{ head -n 1 "$here/typed.scan"; printf 'points\ncollect\nsum\nend\n'; } >"$t/points.scan"
+evaluated 'points and a collection before the first frame' "$t/points.scan"
+python3 "$here/view.py" "$t/out" --split "$t/split" && python3 "$here/read_ply.py" "$t/split/points-1.ply" | cmp -s - <(echo '0 points')
+verdict 'a PLY without a point is read' $?
+refuses 'view.py refuses to show no points' "$here/view.py" "$t/out" --cloud "$t/a.png"
+{ head -c -11 "$here/corner.scan"; printf 'points\nrender\ncollect\npoints\nsum\nend\n'; } >"$t/points.scan"
+evaluated 'points of the corner, before and after a collection' "$t/points.scan"
+python3 "$here/view.py" "$t/out" --split "$t/split" --cloud "$t/a.png" --width 64
+verdict 'view.py takes points out of an output, and shows them' $?
+grep -v '^frame' "$t/split/replies.txt" | cmp -s - <(printf 'points 1138\nrender 3\ncollect 4\n'; grep -a -e '^points' -e '^sum' -e '^end$' "$t/out" | tail -n 3)
+verdict 'a collection removes some blocks, and the replies have each line but those of a PLY' $?
+{ head -n 3 "$t/split/replies.txt"; echo 'points 1138'; cat "$t/split/points-1.ply"; echo 'render 3'; cat "$t/split/render-1.pgm"
+  sed -n '/^collect/,/^points/p' "$t/split/replies.txt"; cat "$t/split/points-2.ply"; tail -n 2 "$t/split/replies.txt"; } | cmp -s - "$t/out"
+verdict 'the parts, put together again, are the output' $?
+for n in 1 2; do
+  [ "$(python3 "$here/read_ply.py" "$t/split/points-$n.ply" | sed -n 1p)" = "$(sed -n 's/^points //p' "$t/split/replies.txt" | sed -n "${n}p") points" ]
+  verdict "read_ply.py finds as many points in PLY $n as the reply says" $?
+done
+if command -v assimp >/dev/null; then
+  assimp info "$t/split/points-1.ply" --raw | grep -q '^Vertices: *1138$'
+  verdict 'assimp reads the PLY' $?
+fi
+head -n 50 "$t/out" >"$t/cut.out"
+sed 's/^property int y/property int w/' "$t/out" >"$t/bad.out"
+refuses 'view.py refuses points that are cut off' "$here/view.py" "$t/cut.out" --split "$t/split"
+refuses 'view.py refuses points of another form' "$here/view.py" "$t/bad.out" --split "$t/split"
+head -n 50 "$t/split/points-1.ply" >"$t/cut.ply"
+refuses 'read_ply.py refuses a file that is cut off' "$here/read_ply.py" "$t/cut.ply"
+sed '9s/$/ 1/' "$t/split/points-1.ply" >"$t/bad.ply"
+refuses 'read_ply.py refuses a row with a number too many' "$here/read_ply.py" "$t/bad.ply"
+sed '9s/^[-0-9]*/1.5/' "$t/split/points-1.ply" >"$t/bad.ply"
+refuses 'read_ply.py refuses a number that is not of its type' "$here/read_ply.py" "$t/bad.ply"
+sed 's/^property int y/property whole y/' "$t/split/points-1.ply" >"$t/bad.ply"
+refuses 'read_ply.py refuses an unknown type' "$here/read_ply.py" "$t/bad.ply"
+refuses 'read_ply.py refuses a picture' "$here/read_ply.py" "$t/split/render-1.pgm"
+refuses 'read_ply.py asks for its words' "$here/read_ply.py"
+
 python3 "$here/view.py" "$here/corner.out" --ply "$t/a.ply" --slice "$t/a.png" --surface "$t/b.png" --width 64
 verdict 'view.py shows a surface' $?
-[ "$(sed -n 's/^element vertex //p' "$t/a.ply")" = "$(sed '1,/^end_header/d' "$t/a.ply" | grep -c .)" ]
-verdict 'the PLY has as many points as it says' $?
+[ "$(python3 "$here/read_ply.py" "$t/a.ply" | sed -n 1p)" = "$(sed -n 's/^element vertex //p' "$t/a.ply") points" ]
+verdict 'read_ply.py reads the PLY of the voxels next to a surface' $?
 python3 "$here/view.py" --slice "$t/a.png" --axis z --at 100 <"$here/wall.out"
 verdict 'view.py shows a slice of standard input' $?
-cat "$here/render.out" "$here/wall.out" | python3 "$here/view.py" --slice "$t/a.png" --axis z --at 100
-verdict 'view.py passes over pictures' $?
+cat "$here/render.out" "$here/points.out" "$here/wall.out" | python3 "$here/view.py" --slice "$t/a.png" --axis z --at 100
+verdict 'view.py passes over pictures and points' $?
 refuses 'view.py refuses an output without voxels' "$here/view.py" "$here/typed.out" --ply "$t/a.ply"
+refuses 'view.py refuses an output without points' "$here/view.py" "$here/typed.out" --cloud "$t/a.png"
 head -n 40 "$here/wall.out" >"$t/cut.out"
 refuses 'view.py refuses a reply that is cut off' "$here/view.py" "$t/cut.out" --ply "$t/a.ply"
 

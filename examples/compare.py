@@ -28,8 +28,8 @@ def some_config(r):
     k = make_config.camera(
         (width, height), (focal, focal * r.uniform(0.7, 1.3)), (r.uniform(0, width), r.uniform(0, height)), (near, far), voxel,
         mu=min(1.0, voxel * r.choice([1, 1.5, 2, 4])), unit=r.choice([100, 200, 1000, 5000, 10000]),
-        max_weight=r.choice([1, 2, 3, 100, 255]), heap_blocks=r.choice([1, 4, 16, 64, 300, 65536]), buckets=2 ** r.randint(0, 16))
-    k["empty_f"] = r.choice([0, 30000, 32767])
+        max_weight=r.choice([1, 2, 3, 100, 255]), heap_blocks=r.choice([1, 4, 16, 64, 300, 65536]), buckets=2 ** r.randint(0, 16),
+        empty_f=r.choice([0, 32767, r.randint(0, 32767)] + 3 * [int(2 ** r.uniform(6, 15))]))
     if r.random() < 0.3:
         k["centre"] = r.randint(0, k["far"] + k["mu"])
         k["radius"] = make_config.least_radius(k)
@@ -159,12 +159,15 @@ def some_scan(r):
     line = broken_config(r, k) if r.random() < 0.12 else make_config.line(k)
     records = []
     for _ in range(r.choice([0, 1, 2, 3, 3, 4])):
-        records += [frame(r, k)] + r.choice([[], [b"sum\n"], [b"\n", b" \t\r\n"], [place(r, k), place(r, k)], [b"render\n"]])
-    records += r.choice([[b"voxels\n"], [b"sum\n"], [b"render\n"], []])
+        records += [frame(r, k)] + r.choice([[], [b"sum\n"], [b"\n", b" \t\r\n"], [place(r, k), place(r, k)], [b"render\n"],
+                                             [b"collect\n"], [b"collect\n", place(r, k)], [b"points\n"]])
+    records += r.choice([[b"voxels\n"], [b"sum\n"], [b"render\n"], [b"points\n"], [b"collect\n", b"points\n"],
+                         [b"collect\n", b"voxels\n"], []])
     for _ in range(2):
         if r.random() < 0.04:
             records.insert(r.randint(0, len(records)), r.choice([
-                b"Sum\n", b"sum 1\n", b"render 1\n", b"place\n", b"end 1\n", b"frame\n", b"fram\n", b"\x00\n", b"\xff\n", b" voxels \r\n", b"x" * 1024 + b"\n",
+                b"Sum\n", b"sum 1\n", b"render 1\n", b"place\n", b"end 1\n", b"frame\n", b"fram\n", b"\x00\n", b"\xff\n", b" voxels \r\n",
+                b"collect 1\n", b"points 0\n", b"collect\n", b"points\n", b"Collect\n", b"point\n", b"x" * 1024 + b"\n",
                 b" " * 1025 + b"\n", b" " * 1024 + b"\n", b"x" * 2000, b"end\n", b"\x0csum\n"]))
     text = line.encode() + b"\n" + b"".join(records)
     text += b"end\n" if r.random() < 0.9 else b"end"
@@ -212,8 +215,10 @@ def main():
                 kinds["frames refused" if "refused" in line else "frames fused"] += 1
             elif line.startswith("place"):
                 kinds["answers '%s'" % line] += 1
+            elif line.startswith("collect"):
+                kinds["collections of %s" % ("none" if line == "collect 0" else "some blocks")] += 1
             elif re.match("-?[0-9]", line):
-                kinds["voxels listed"] += 1
+                kinds["voxels listed" if line.count(" ") == 4 else "points"] += 1
         if answer([a.program, "fuse"], text) != wanted:
             differ += 1
             print("scan %d differs" % n)

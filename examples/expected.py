@@ -202,22 +202,26 @@ def place(config, state, key):
     return "heap" if is_active(config, state["last"], key) else "store"
 
 
+def value(blocks, c):
+    """The distance of the voxel with these coordinates, None where it is not known."""
+    voxels = blocks.get(tuple(a // 8 for a in c))
+    if voxels is None:
+        return None
+    f, w = voxels[c[0] % 8 + 8 * (c[1] % 8) + 64 * (c[2] % 8)]
+    return f if w > 0 else None
+
+
 def picture(config, state):
     """The picture of the map from the last pose, as a PGM: of each pixel the first depth at which the values of the points on its ray
     fall from above 0 to at most 0, where a straight line between them is 0; 0 where they do at none."""
     k, s, raw = config, config["voxel"], b""
 
-    def value(u, v, z):
-        x = [(2 * a + s) // (2 * s) for a in world_of(state["last"], ray(k, u, v, z))]
-        voxels = state["blocks"].get(tuple(c // 8 for c in x))
-        if voxels is None:
-            return None
-        f, w = voxels[x[0] % 8 + 8 * (x[1] % 8) + 64 * (x[2] % 8)]
-        return f if w > 0 else None
+    def nearest(u, v, z):
+        return [(2 * a + s) // (2 * s) for a in world_of(state["last"], ray(k, u, v, z))]
 
     def sample(u, v):
         depths = range(k["near"], k["far"] + 1, s)
-        values = [value(u, v, z) for z in depths]
+        values = [value(state["blocks"], nearest(u, v, z)) for z in depths]
         for z, f, g in zip(depths, values, values[1:]):
             if f is not None and g is not None and f > 0 >= g:
                 return min(65535, (z + s * f // (f - g)) // k["unit"])
@@ -229,9 +233,30 @@ def picture(config, state):
     return b"P5\n%d %d\n65535\n" % (k["width"], k["height"]) + raw
 
 
-def known_lines(blocks):
-    return ["%d %d %d %d %d" % (8 * b[0] + i % 8, 8 * b[1] + i // 8 % 8, 8 * b[2] + i // 64, f, w)
+def voxels_of(blocks):
+    """The coordinates, the distance and the weight of each known voxel, by key and then by index."""
+    return [((8 * b[0] + i % 8, 8 * b[1] + i // 8 % 8, 8 * b[2] + i // 64), f, w)
             for b in sorted(blocks) for i, (f, w) in enumerate(blocks[b]) if w > 0]
+
+
+def collected(config, state):
+    """The keys of the blocks that are collected: active for the last frame that was accepted, and without a known voxel whose
+    distance is near enough to 0."""
+    if state["frames"] == 0:
+        return []
+    return [key for key, voxels in state["blocks"].items() if is_active(config, state["last"], key)
+            and not any(w > 0 and abs(f) < config["empty_f"] for f, w in voxels)]
+
+
+def points(config, blocks):
+    """The points at which the values go through 0 between a known voxel and the next one along an axis."""
+    s, found = config["voxel"], []
+    for c, f, _ in voxels_of(blocks):
+        for axis in range(3):
+            g = value(blocks, [c[i] + (i == axis) for i in range(3)])
+            if g is not None and (f > 0) != (g > 0):
+                found.append([s * c[i] + (s * f // (f - g) if i == axis else 0) for i in range(3)])
+    return found
 
 
 def answer(config, state, text, out):
@@ -260,13 +285,22 @@ def answer(config, state, text, out):
             else:
                 out += ["render %d" % state["frames"], picture(config, state)]
         elif word == b"voxels" and len(words) == 1:
-            known = known_lines(blocks)
+            known = voxels_of(blocks)
             out.append("voxels %d %d" % (len(blocks), len(known)))
-            out += known
+            out += ["%d %d %d %d %d" % (*c, f, w) for c, f, w in known]
         elif word == b"sum" and len(words) == 1:
-            known = [(f, w) for voxels in blocks.values() for f, w in voxels if w > 0]
+            known = voxels_of(blocks)
             out.append("sum blocks %d known %d weight %d distance %d"
-                       % (len(blocks), len(known), sum(w for _, w in known), sum(f for f, _ in known)))
+                       % (len(blocks), len(known), sum(w for _, _, w in known), sum(f for _, f, _ in known)))
+        elif word == b"points" and len(words) == 1:
+            found = points(config, blocks)
+            out += ["points %d" % len(found), "ply", "format ascii 1.0", "element vertex %d" % len(found)]
+            out += ["property int " + axis for axis in "xyz"] + ["end_header"] + ["%d %d %d" % (*p,) for p in found]
+        elif word == b"collect" and len(words) == 1:
+            gone = collected(config, state)
+            for key in gone:
+                del blocks[key]
+            out.append("collect %d" % len(gone))
         elif word == b"place" and len(words) == 4:
             for w in words[1:]:
                 if not re.fullmatch(rb"-?[0-9]{1,5}", w[0]) or not -2 ** 15 <= int(w[0]) < 2 ** 15:

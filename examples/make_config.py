@@ -61,7 +61,7 @@ def config_of(k):
 
 
 def camera(size, focal, axis, near_far, voxel, mu=None, unit=1000, max_weight=100, heap_blocks=65536, buckets=16384,
-           radius=None, centre=None):
+           radius=None, centre=None, empty_f=30000):
     """A configuration of lengths in metres and intrinsics in pixels; unit is in micrometres."""
     if not all(abs(x) <= 1e9 for x in (*focal, *axis, *near_far, voxel, mu or 0, radius or 0, centre or 0)):
         raise Refused("a number is out of all bounds")
@@ -74,7 +74,7 @@ def camera(size, focal, axis, near_far, voxel, mu=None, unit=1000, max_weight=10
         "cx": round(65536 * axis[0]), "cy": round(65536 * axis[1]), "unit": unit, "near": length(near_far[0]),
         "far": length(near_far[1]), "voxel": length(voxel), "mu": length(4 * voxel if mu is None else mu),
         "max_weight": max_weight, "radius": length(radius), "centre": length(centre), "heap_blocks": heap_blocks,
-        "buckets": buckets, "empty_f": 30000})
+        "buckets": buckets, "empty_f": empty_f})
 
 
 def line(config):
@@ -95,10 +95,11 @@ def main():
     p.add_argument("--buckets", type=int, default=16384, help="of the hash, a power of two (16384)")
     p.add_argument("--radius", type=float, help="of the active sphere in metres (the least that passes)")
     p.add_argument("--centre", type=float, help="of the active sphere, in metres before the camera (half the greatest depth)")
+    p.add_argument("--empty-f", type=int, default=30000, help="a block with a distance nearer to 0 is not collected (30000)")
     a = p.parse_args()
     try:
         print(line(camera(a.size, a.focal, a.axis, a.range, a.voxel, a.mu, a.unit, a.max_weight, a.heap_blocks, a.buckets,
-                          a.radius, a.centre)))
+                          a.radius, a.centre, a.empty_f)))
     except Refused as why:
         p.exit(2, "make_config.py: %s\n" % why)
 

@@ -107,10 +107,12 @@ def main():
     p.add_argument("--frames", type=int, metavar="N", help="at most so many frames")
     p.add_argument("--every", type=int, default=1, metavar="N", help="every Nth frame alone")
     p.add_argument("--gap", type=float, default=0.02, metavar="SECONDS", help="between a depth map and its pose (0.02)")
-    p.add_argument("--ask", default="sum", metavar="RECORD", choices=("sum", "voxels", "render"), help="the last record (sum)")
+    p.add_argument("--ask", default="sum", metavar="RECORD", choices=("sum", "voxels", "render", "points"),
+                   help="the last record (sum)")
+    p.add_argument("--collect", type=int, default=0, metavar="N", help="remove empty blocks after every Nth frame (never)")
     a = p.parse_args()
     try:
-        if a.every < 1 or (a.frames is not None and a.frames < 0) or not a.gap >= 0:
+        if a.every < 1 or (a.frames is not None and a.frames < 0) or a.collect < 0 or not a.gap >= 0:
             raise BadFolder("a number of frames is at least 0, every at least 1, and a gap at least 0")
         line, out = config_line(a.config), sys.stdout.buffer
         sides = tuple(json.loads(line).get(name) for name in ("width", "height"))
@@ -118,11 +120,13 @@ def main():
         if not frames:
             raise BadFolder("no depth map of %s has a pose within %g seconds" % (a.folder, a.gap))
         out.write(line.encode() + b"\n")
-        for path, rows in frames:
+        for n, (path, rows) in enumerate(frames, 1):
             size, picture = depth_map(path)
             if size != sides:
                 raise BadFolder("%s is %d by %d pixels, and the configuration says %s by %s" % (path, *size, *sides))
             out.write(b"frame %s\n" % rows.encode() + picture)
+            if a.collect and n % a.collect == 0:
+                out.write(b"collect\n")
         out.write(a.ask.encode() + b"\nend\n")
         out.flush()
     except BadFolder as why:

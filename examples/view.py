@@ -1,12 +1,13 @@
 #!/usr/bin/env python3
-"""view.py [FILE] [--split FOLDER] [--ply OUT] [--slice OUT] [--surface OUT] [OPTION ..]   shows a program's output.
+"""view.py [FILE] [--split FOLDER] [--cloud OUT] [--ply OUT] [--slice OUT] [--surface OUT] [OPTION ..]   shows a program's output.
 
 --split takes the output apart into a folder: replies.txt has its lines, and each render is there as the PGM that the program wrote
 (render-1.pgm and so on; a sample is a depth in the configuration's unit) and as a PNG to look at, near surfaces bright and what shows
-none dark blue. The others show the last reply to `voxels`.
+none dark blue. Each reply to `points` is there as the PLY that the program wrote (points-1.ply and so on; in micrometres).
 
---ply writes the voxels next to the surface as points with normals, --slice a PNG of a plane of voxels, --surface a PNG of the
-surface between the voxels before it and behind it (surface nets: a vertex in each cell that it crosses). Coordinates are in voxels."""
+--cloud writes a PNG of the last reply to `points`, near points bright. The others show the last reply to `voxels`: --ply writes the
+voxels next to the surface as points with normals, --slice a PNG of a plane of voxels, --surface a PNG of the surface between the
+voxels before it and behind it (surface nets: a vertex in each cell that it crosses). Their coordinates are in voxels."""
 import argparse
 import math
 import os
@@ -17,6 +18,7 @@ import png
 
 AXES = ((1, 0, 0), (0, 1, 0), (0, 0, 1))
 GREATEST = 32767
+NIGHT = (20, 20, 60)
 
 
 class BadView(Exception):
@@ -48,8 +50,8 @@ def unit(p):
 
 
 def parts_of(data):
-    """The lines of a program's output, and its renders: the width, the height and the bytes of each PGM."""
-    lines, renders, at = [], [], 0
+    """The lines of a program's output, its renders (the width, the height and the bytes of each PGM), and the bytes of each PLY."""
+    lines, renders, clouds, at = [], [], [], 0
     while at < len(data):
         end = data.find(b"\n", at)
         end = len(data) if end < 0 else end
@@ -65,7 +67,28 @@ def parts_of(data):
                 raise BadView("the picture of a render is cut off or damaged")
             renders.append((int(head[1]), int(head[2]), data[at:at + size]))
             at += size
-    return lines, renders
+        elif re.fullmatch("points [0-9]+", lines[-1]):
+            size = cloud_size(data, at, lines[-1][7:].encode())
+            clouds.append(data[at:at + size])
+            at += size
+    return lines, renders, clouds
+
+
+def cloud_size(data, start, count):
+    """The number of bytes of the PLY of so many points that begins at an offset."""
+    head = b"ply\nformat ascii 1.0\nelement vertex " + count + b"\nproperty int x\nproperty int y\nproperty int z\nend_header\n"
+    row = re.compile(rb"-?[0-9]{1,10} -?[0-9]{1,10} -?[0-9]{1,10}\n")
+
+    def need(found):
+        if not found:
+            raise BadView("the PLY of a reply to `points` is cut off or damaged")
+        return found
+
+    need(data.startswith(head, start))
+    at = start + len(head)
+    for _ in range(int(count)):
+        at = need(row.match(data, at)).end()
+    return at - start
 
 
 def shades_of(width, height, pgm):
@@ -75,7 +98,7 @@ def shades_of(width, height, pgm):
     near, far = min((s for s in samples if s), default=0), max(samples)
 
     def shade(sample):
-        return (255 - 200 * (sample - near) // max(1, far - near),) * 3 if sample else (20, 20, 60)
+        return (255 - 200 * (sample - near) // max(1, far - near),) * 3 if sample else NIGHT
 
     side = max(1, min(16, 640 // max(width, height)))
     rows = []
@@ -84,7 +107,7 @@ def shades_of(width, height, pgm):
     return rows
 
 
-def split(folder, lines, renders):
+def split(folder, lines, renders, clouds):
     try:
         os.makedirs(folder, exist_ok=True)
     except OSError as why:
@@ -93,6 +116,8 @@ def split(folder, lines, renders):
     for n, (width, height, pgm) in enumerate(renders, 1):
         write(os.path.join(folder, "render-%d.pgm" % n), pgm)
         write(os.path.join(folder, "render-%d.png" % n), png.write_colours(shades_of(width, height, pgm)))
+    for n, ply in enumerate(clouds, 1):
+        write(os.path.join(folder, "points-%d.ply" % n), ply)
 
 
 def distances_of(lines):
@@ -183,11 +208,44 @@ def quads_of(found):
             yield quad[::-1] if outside_first else quad, sum(c // 8 for c in cells[0]) % 2
 
 
-def surface_rows(found, look, width):
-    """The surface seen from far away in a direction, y down. Neighbouring blocks differ in shade, and a back side is brown."""
+def view_of(look):
+    """What is to the right in a view, what is down, and its direction, each of length 1."""
     look = unit(look)
     right = unit(cross((0, 1, 0), look))
-    down = cross(look, right)
+    return right, cross(look, right), look
+
+
+def points_of(clouds):
+    """The points of the last reply to `points`."""
+    if not clouds:
+        raise BadView("there is no reply to `points` in the input")
+    points = [tuple(map(int, line.split())) for line in clouds[-1].splitlines()[7:]]
+    if not points:
+        raise BadView("the last reply to `points` has no point")
+    return points
+
+
+def cloud_rows(points, look, width):
+    """The points seen from far away in a direction, y down: near ones bright, each a square of the size of its share of the picture."""
+    right, down, look = view_of(look)
+    seen = [(dot(p, right), dot(p, down), dot(p, look)) for p in points]
+    low, high = ([least(p[i] for p in seen) for i in range(3)] for least in (min, max))
+    scale = 0.92 * width / max(high[0] - low[0], high[1] - low[1], 1)
+    height = int(scale * (high[1] - low[1]) + 0.08 * width) + 1
+    side = max(1, min(16, int(math.sqrt(width * height / len(points)))))
+    rows = [[NIGHT] * width for _ in range(height)]
+    for x, y, z in sorted(seen, key=lambda p: -p[2]):
+        shade = 255 - int(200 * (z - low[2]) / max(high[2] - low[2], 1))
+        u = int(width / 2 + scale * (x - (low[0] + high[0]) / 2)) - side // 2
+        v = int(height / 2 + scale * (y - (low[1] + high[1]) / 2)) - side // 2
+        for row in rows[max(0, v):v + side]:
+            row[max(0, u):u + side] = [(shade,) * 3] * (min(width, u + side) - max(0, u))
+    return rows
+
+
+def surface_rows(found, look, width):
+    """The surface seen from far away in a direction, y down. Neighbouring blocks differ in shade, and a back side is brown."""
+    right, down, look = view_of(look)
     quads = list(quads_of(found))
     if not quads:
         raise BadView("no surface lies between known voxels")
@@ -241,32 +299,36 @@ def write(path, data):
 
 
 def main():
-    p = argparse.ArgumentParser(description="Takes a program's output apart, and shows its last reply to `voxels`.")
+    p = argparse.ArgumentParser(description="Takes a program's output apart, and shows its last replies to `points` and `voxels`.")
     p.add_argument("file", metavar="FILE", nargs="?", help="the program's output (standard input)")
-    p.add_argument("--split", metavar="FOLDER", help="write the replies, and each render as PGM and PNG")
+    p.add_argument("--split", metavar="FOLDER", help="write the replies, each render as PGM and PNG, and points as PLY")
+    p.add_argument("--cloud", metavar="OUT", help="write a PNG of the surface's points")
     p.add_argument("--ply", metavar="OUT", help="write the voxels next to the surface")
     p.add_argument("--slice", metavar="OUT", help="write a PNG of a plane of voxels")
     p.add_argument("--surface", metavar="OUT", help="write a PNG of the surface")
     p.add_argument("--axis", choices=("x", "y", "z"), default="y", help="that the slice is across (y)")
     p.add_argument("--at", type=int, default=0, metavar="N", help="the slice's coordinate in voxels (0)")
     p.add_argument("--voxel", type=float, default=1.0, metavar="METRES", help="scale of the PLY (1: in voxels)")
-    p.add_argument("--look", type=float, nargs=3, default=(0.9, 0.6, 1.0), metavar=("X", "Y", "Z"), help="direction of the surface's view")
-    p.add_argument("--width", type=int, default=480, metavar="PIXELS", help="of the surface's picture (480)")
+    p.add_argument("--look", type=float, nargs=3, default=(0.9, 0.6, 1.0), metavar=("X", "Y", "Z"),
+                   help="direction of the view of a surface or of points")
+    p.add_argument("--width", type=int, default=480, metavar="PIXELS", help="of that view's picture (480)")
     a = p.parse_args()
     try:
-        if not (a.split or a.ply or a.slice or a.surface):
-            raise BadView("say what to write: --split, --ply, --slice or --surface")
+        if not (a.split or a.cloud or a.ply or a.slice or a.surface):
+            raise BadView("say what to write: --split, --cloud, --ply, --slice or --surface")
         if not 1 <= a.width <= 2048 or not all(math.isfinite(c) and abs(c) < 1e6 for c in (*a.look, a.voxel)):
             raise BadView("a picture's width is from 1 to 2048, and every number is finite")
         if abs(a.look[0]) + abs(a.look[2]) < 1e-6:
             raise BadView("the view cannot go straight up or down")
         try:
             with open(a.file, "rb") if a.file else sys.stdin.buffer as file:
-                lines, renders = parts_of(file.read())
+                lines, renders, clouds = parts_of(file.read())
         except OSError as why:
             raise BadView("%s is not read: %s" % (a.file or "standard input", why.strerror))
         if a.split:
-            split(a.split, lines, renders)
+            split(a.split, lines, renders, clouds)
+        if a.cloud:
+            write(a.cloud, png.write_colours(cloud_rows(points_of(clouds), a.look, a.width)))
         if not (a.ply or a.slice or a.surface):
             return
         found = distances_of(lines)
