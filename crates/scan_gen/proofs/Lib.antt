@@ -1,0 +1,7 @@
+pub mod Depths
+pub mod Pieces
+pub mod Products
+pub mod Rasters
+pub mod Roots
+pub mod Scenes
+pub mod Texts

@@ -1,0 +1,3 @@
+pub mod Generated
+pub mod Scene
+pub mod Supply
