@@ -1,1 +1,3 @@
+pub mod Checks
 pub mod Empty
+pub mod Laws

@@ -1,4 +1,4 @@
-//! Which blocks may be collected, since they hold no surface.
+//! Which blocks may be collected, since they hold no surface, and the jobs that look at them.
 #![tactic(auto)]
 
 ghost use Rattle.std.specs.Prelude.{◌≡◌, ◌≤ℤ◌, ◌↔◌, pos, IsTrue, List};
@@ -6,6 +6,10 @@ ghost use Rattle.voxel_block.specs.Summaries.{summary_of};
 ghost use Rattle.voxel_block.specs.declared.voxel.Voxel.{Voxel};
 ghost use Rattle.collector.specs.Empty.{is_empty_block};
 
+mod checks;
+pub mod laws;
+
+pub use checks::{check_jobs, empty_cells};
 use voxel_block::Summary;
 
 /// Whether a block with this summary holds no surface: no known voxel of it has a distance of a size below

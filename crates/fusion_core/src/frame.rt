@@ -90,6 +90,13 @@ impl Frame {
         self.depths.height()
     }
 
+    /// The greatest weight of a voxel.
+    pub fn max_weight(&self) -> u8
+        ensures { result ≡ self.now.max_weight }
+    {
+        self.max_weight
+    }
+
     /// Whether a block is active for the frame: its centre lies in the sphere before the camera. The update leaves a
     /// block as it is that is not active.
     pub fn is_active(&self, key: BlockKey) -> bool

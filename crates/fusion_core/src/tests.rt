@@ -10,13 +10,13 @@ use voxel_block::{Block, BlockKey, Voxel};
 
 const ONE: i64 = 1 << 30;
 
-const AHEAD: [i64; 9] = [ONE, 0, 0, 0, ONE, 0, 0, 0, ONE];
+pub(crate) const AHEAD: [i64; 9] = [ONE, 0, 0, 0, ONE, 0, 0, 0, ONE];
 
 // The second axis is turned round, and so is no rotation.
 const MIRRORED: [i64; 9] = [ONE, 0, 0, 0, -ONE, 0, 0, 0, ONE];
 
 // One pixel that looks along the axis, voxels of 1 cm and a truncation distance of 4 cm.
-const PIXEL: CameraFields = CameraFields {
+pub(crate) const PIXEL: CameraFields = CameraFields {
     width: 1,
     height: 1,
     fx: 65536,

@@ -1,17 +1,10 @@
 ghost use Rattle.std.specs.Prelude.{◌≡◌, ◌^◌, ◌<◌};
 ghost use Rattle.std.specs.Option.{IsSome};
-ghost use Rattle.spatial_hash.specs.Hash.{hash_axis as hash_axis_of};
 
 use super::HashTable;
+use crate::hash::bucket;
 use crate::lookup::Lookup;
 use voxel_block::BlockKey;
-
-/// The factors of the hash, one for each axis.
-const X_FACTOR: i32 = 73856093;
-
-const Y_FACTOR: i32 = 19349669;
-
-const Z_FACTOR: i32 = 83492791;
 
 impl HashTable {
     ghost use Rattle.spatial_hash.specs.Hash.{bucket_of, home};
@@ -78,16 +71,6 @@ impl HashTable {
         ensures value { result ≡ bucket_of self.now.buckets key }
         ensures bound { result < self.now.buckets }
     {
-        let hash = hash_axis(key.x, X_FACTOR)
-            ^ hash_axis(key.y, Y_FACTOR)
-            ^ hash_axis(key.z, Z_FACTOR);
-        hash as usize % self.buckets
+        bucket(self.buckets, key)
     }
-}
-
-/// What one axis adds to the hash: the coordinate times the factor, modulo 2^32.
-fn hash_axis(a: i16, factor: i32) -> u32
-    ensures { result ≡ hash_axis_of a factor }
-{
-    i32::from(a).wrapping_mul(factor).cast_unsigned()
 }
