@@ -52,13 +52,77 @@ refuses() {
 
 # The words of the command.
 : >"$t/want"
-usage='fusion: usage: fuse'
+usage='fusion: usage: fuse [--workers N] | demo SEED FRAMES [--workers N]'
 run 'no words' 2 "$usage" <"$here/typed.scan"
-run 'a wrong word' 2 "$usage" fuze <"$here/typed.scan"
 run 'an empty word' 2 "$usage" '' <"$here/typed.scan"
-run 'a word too many' 2 "$usage" fuse fuse <"$here/typed.scan"
 run 'a word that is no UTF-8' 2 "$usage" $'fuse\xff' <"$here/typed.scan"
 run 'a second word that is no UTF-8' 2 "$usage" fuse $'\xff' <"$here/typed.scan"
+while IFS= read -r line; do
+  run "$line" 2 "$usage" $line <"$here/typed.scan"
+done <<'END'
+fuze
+frobnicate
+Fuse
+fus
+fuse fuse
+fuse --workers 0
+fuse --workers=65
+fuse --workers 4294967297
+fuse --workers
+fuse --workers=
+fuse --workers +4
+fuse --workers=-4
+fuse --workers 4 --workers 4
+fuse --work 4
+fuse --keep chunks
+--workers 4 fuse
+help
+--help
+fuse -h
+demo --help
+--version
+demo
+demo 7
+demo 7 0
+demo 7 1001
+demo 4294967296 3
+demo 00000000007 3
+demo 7 0x3
+demo 7 -3
+demo 7 3 4
+END
+cp "$here/typed.out" "$t/want"
+run 'fuse --workers=1' 0 '' fuse --workers=1 <"$here/typed.scan"
+run 'fuse --workers 007' 0 '' fuse --workers 007 <"$here/typed.scan"
+run 'as many workers as there may be' 0 '' fuse --workers 64 <"$here/typed.scan"
+
+# Demos. Their replies were computed by two evaluators that share nothing with the program.
+cat >"$t/want" <<'END'
+frame 1 blocks 9736 resident 9736
+frame 2 blocks 9817 resident 9817
+frame 3 blocks 9934 resident 9934
+sum blocks 9934 known 2849268 weight 8281776 distance 19061253821
+end
+END
+run 'a demo' 0 '' demo 7 3 </dev/null
+run 'a demo with one worker' 0 '' demo --workers 1 7 3 </dev/null
+run 'a demo with its workers in between' 0 '' demo 0000000007 --workers=2 3 </dev/null
+run 'a demo whose numbers stand behind --' 0 '' demo --workers 2 -- 7 3 </dev/null
+run 'a demo over a directory as input' 0 '' demo 7 3 <"$t"
+while read -r seed blocks known distance; do
+  printf 'frame 1 blocks %s resident %s\nsum blocks %s known %s weight %s distance %s\nend\n' "$blocks" "$blocks" "$blocks" "$known" "$known" "$distance" >"$t/want"
+  run "a demo of seed $seed" 0 '' demo "$seed" 1 </dev/null
+done <<'END'
+0 10141 2878493 15730758520
+1 9963 2845383 20164930974
+4294967295 9819 2793389 17906195384
+END
+printf 'frame 20 blocks 11114 resident 11114\nsum blocks 11114 known 3252774 weight 50967842 distance 24045657119\nend\n' >"$t/want"
+timeout 60 "$program" demo 7 20 </dev/null 2>"$t/err" >"$t/all"
+code=$?
+tail -n 3 "$t/all" >"$t/out"; : >"$t/wanterr"
+compare 'the end of a demo of 20 frames' "$code" 0
+: >"$t/want"
 
 # The ways in which a run ends early.
 run 'an empty scan' 3 'fusion: scan refused at byte 0: short' fuse </dev/null

@@ -38,8 +38,8 @@ three_axes o o1 o2 o3 a b c e1 e2 e3 = rw (e3, e2, e1) (simp append_assoc)
 
 -- ---- what stays
 
-pub grown_same : (list : List Crossing) → IsGrown list list
+pub grown_same : {A : Type 0} (list : List A) → IsGrown list list
 grown_same list = record { more = []; is = sym (append-nil list) }
 
-pub grown_on : (old now new : List Crossing) → IsGrown old now → IsGrown now new → IsGrown old new
-grown_on old now new g h = record { more = g.more ++ h.more; is = h.is ∙ ap (λ (list : List Crossing). list ++ h.more) g.is ∙ append_assoc old g.more h.more }
+pub grown_on : {A : Type 0} (old now new : List A) → IsGrown old now → IsGrown now new → IsGrown old new
+grown_on {A} old now new g h = record { more = g.more ++ h.more; is = h.is ∙ ap (λ (list : List A). list ++ h.more) g.is ∙ append_assoc old g.more h.more }

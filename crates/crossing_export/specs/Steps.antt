@@ -1,11 +1,10 @@
--- What the code of a block's crossings rests on.
+-- What the code of the crossings and of their file rests on.
 use Rattle.std.specs.Prelude.{◌≡◌, List, ◌++◌}
 use Rattle.std.specs.FinMap.{FinMap}
 use Rattle.std.specs.Option.{option_copied}
 use Rattle.voxel_block.specs.declared.voxel.Voxel.{Voxel}
 use Rattle.voxel_block.specs.Keys.{key_cmp}
 use Rattle.crossing_export.specs.declared.around.Around.{Around}
-use Rattle.crossing_export.specs.declared.crossing.Crossing.{Crossing}
 use Rattle.crossing_export.specs.Crossings.{IsAround}
 
 -- a map has a block and those next to it
@@ -17,6 +16,6 @@ abbrev pub InEachMap : Around → (FinMap key_cmp (List Voxel) → Type 0) → T
 InEachMap a P = (m : FinMap key_cmp (List Voxel)) → HasAround m a → P m
 
 -- a list begins with an older one
-pub record IsGrown (old new : List Crossing) : Type 0 where
-  pub more : List Crossing
+pub record IsGrown {A : Type 0} (old new : List A) : Type 0 where
+  pub more : List A
   pub is : new ≡ old ++ more

@@ -1,1 +1,3 @@
 mod RunLemmas
+pub mod WordLemmas
+pub mod CommandLemmas

@@ -1,5 +1,5 @@
 -- What the program makes of its arguments, and what it writes to its error stream.
-use Rattle.std.specs.Prelude.{◌≡◌, ℕ, List, [], ◌∷◌, ◌++◌, ◌⊎◌, Option, take, drop, map, not, Bool, true, false, Result, Ok, Err, String, string_bytes}
+use Rattle.std.specs.Prelude.{◌≡◌, ℕ, List, [], ◌∷◌, ◌++◌, ◌⊎◌, Option, None, is_some, take, drop, map, not, Bool, true, false, Result, Ok, Err, String, string_bytes}
 use Rattle.std.specs.Io.KnownBytes.{Appends}
 use Rattle.std.specs.Vec.Iter.{into_iter_items}
 use Rattle.std.specs.IoError.{error_kind}
@@ -10,10 +10,11 @@ use Rattle.std.specs.declared.io.ErrorKind.TheVariants.{OutOfMemory}
 use Rattle.std.specs.declared.vec.IntoIter.{IntoIter}
 use Rattle.scan_io.specs.Causes.{Rose}
 use Rattle.scan_lang.specs.declared.error.BadScan.{BadScan as BadScanValue}
-use Rattle.fusion_cli.specs.Run.{is_fuse}
 use Rattle.fusion_cli.specs.Status.{text_of}
+use Rattle.fusion_cli.specs.Words.{command_of}
 use Rattle.fusion_cli.specs.declared.status.Status.{Status}
 use Rattle.fusion_cli.specs.declared.status.Status.TheVariants.{Done, NoMemory, Usage, BadScan, ReadFault, WriteFault}
+use Rattle.fusion_cli.specs.declared.words.Command.{Command}
 
 -- the arguments as the system gives them, the program's name first; one that is no UTF-8 is an error
 abbrev pub Arguments : Type 0
@@ -24,9 +25,14 @@ abbrev pub is_out_of_memory : ErrorKind → Bool
 is_out_of_memory OutOfMemory = true
 is_out_of_memory _ = false
 
--- the arguments after the program's name are no command; nor are any that can't be read
+-- the command that the arguments after the program's name are; those that can't be read are none
+abbrev pub command_in : Arguments → Option Command
+command_in (Ok args) = command_of (map string_bytes (drop 1 (into_iter_items args)))
+command_in (Err e) = None
+
+-- the arguments are no command, for another cause than memory
 abbrev pub is_usage : Arguments → Bool
-is_usage (Ok args) = not (is_fuse (map string_bytes (drop 1 (into_iter_items args))))
+is_usage (Ok args) = not (is_some (command_in (Ok args)))
 is_usage (Err e) = not (is_out_of_memory (error_kind e))
 
 -- the line of a status with its line feed; a run that is done has none

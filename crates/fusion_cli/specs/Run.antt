@@ -1,11 +1,13 @@
 -- What a run answers and writes.
-use Rattle.std.specs.Prelude.{◌≡◌, ℕ, ◌≤◌, List, [], ◌∷◌, ◌++◌, codes, Option, None, Some, IfSome, Result, Ok, Err, take, Bool, false, ⊤}
+use Rattle.std.specs.Prelude.{◌≡◌, ◌≢◌, ◌⊎◌, ℕ, ◌≤◌, List, [], ◌++◌, Option, None, Some, IfSome, Result, Ok, Err, take, Bool, true, false, ⊤}
 use Rattle.std.specs.Io.KnownBytes.{Appends}
-use Rattle.std.specs.Str.{bytes_eq}
 use Rattle.fusion_cli.specs.declared.status.Status.{Status}
 use Rattle.fusion_cli.specs.declared.status.Status.TheVariants.{Done, NoMemory, Usage, BadScan, ReadFault, WriteFault}
 use Rattle.fusion_cli.specs.declared.run.Stop.{Stop}
 use Rattle.fusion_cli.specs.declared.run.Stop.TheVariants as stops
+use Rattle.fusion_cli.specs.declared.words.Command.{Command}
+use Rattle.fusion_cli.specs.declared.words.Command.TheVariants.{Fuse, Demo}
+use Rattle.scan_gen.specs.Generated.{generated_scan}
 use Rattle.scan_io.specs.Causes.{Rose}
 use Rattle.scan_io.specs.Coming.{Grows, LosesFront}
 use Rattle.scan_io.specs.Reading.{StaysKnown}
@@ -14,12 +16,6 @@ use Rattle.scan_lang.specs.declared.error.ScanError.TheVariants as errors
 use Rattle.scan_lang.specs.Offsets.{short}
 use Rattle.scan_lang.specs.Scan.{Ending, complete, refused}
 use Rattle.session.specs.Output.{output_of, all_bytes, first_bytes}
-
--- the one word of the command
-abbrev pub is_fuse : List (List ℕ) → Bool
-is_fuse [] = false
-is_fuse (word ∷ []) = bytes_eq word (codes "fuse")
-is_fuse (word ∷ other ∷ more) = false
 
 -- ---- the bytes written
 
@@ -42,12 +38,37 @@ Ran text left old new (BadScan why) = ((output_of text).ending ≡ refused why) 
 Ran text left old new ReadFault = GivesPart text left old new
 Ran text left old new WriteFault = (n : ℕ) × Appends old new (take n (all_bytes (output_of text)))
 Ran text left old new NoMemory = (n : ℕ) × Appends old new (first_bytes n (output_of text))
--- nothing is read and nothing is written
-Ran text left old new Usage = StaysKnown left (λ rest. rest ≡ text) × Appends old new []
+-- words that are no command start no run
+Ran text left old new Usage = ⊥
 
 abbrev pub Answers : (before left old new : Option (List ℕ)) → Status → Type 0
 Answers None left old new status = Unit {0}
 Answers (Some text) left old new status = Ran text left old new status
+
+-- The same from a text that is made: no read fails.
+abbrev pub AnswersMade : (text : List ℕ) (old new : Option (List ℕ)) → Status → Type 0
+AnswersMade text old new status = (status ≢ ReadFault) × ((rest : List ℕ) × Ran text (Some rest) old new status)
+
+-- Where words are no command the sink takes nothing; the status says so, or is out of memory.
+abbrev pub AnswersNone : (old new : Option (List ℕ)) → Status → Type 0
+AnswersNone old new status = ((status ≡ Usage) ⊎ (status ≡ NoMemory)) × Appends old new []
+
+-- A command's run: `fuse` is over what the source tells, `demo` over a generated scan.
+abbrev pub Answered : Option Command → (before left old new : Option (List ℕ)) → Status → Type 0
+Answered None before left old new status = AnswersNone old new status
+Answered (Some (Fuse workers keep)) before left old new status = Answers before left old new status
+Answered (Some (Demo seed frames workers)) before left old new status = AnswersMade (generated_scan seed frames) old new status
+
+-- whether a command reads the source
+abbrev pub reads_source : Option Command → Bool
+reads_source None = false
+reads_source (Some (Fuse workers keep)) = true
+reads_source (Some (Demo seed frames workers)) = false
+
+-- the text that a command is run over, where it is told
+abbrev pub text_for : Command → (source : Option (List ℕ)) → Option (List ℕ)
+text_for (Fuse workers keep) source = source
+text_for (Demo seed frames workers) source = Some (generated_scan seed frames)
 
 abbrev pub status_of : Ending → Status
 status_of complete = Done
@@ -98,6 +119,12 @@ pub record IsRun (source left sink grown : Told) (status : Status) : Type 0 wher
   pub front : LosesFront source.bytes left.bytes
   pub grows : Grows sink.bytes grown.bytes
   pub reads : CountsReads source.faults left.faults status
+  pub writes : CountsWrites sink.faults grown.faults status
+
+-- a run with this status, over a text that is made, and a sink
+pub record IsDemo (text : List ℕ) (sink grown : Told) (status : Status) : Type 0 where
+  pub answer : AnswersMade text sink.bytes grown.bytes status
+  pub grows : Grows sink.bytes grown.bytes
   pub writes : CountsWrites sink.faults grown.faults status
 
 -- the status of a run

@@ -4,9 +4,10 @@ ghost use Rattle.std.specs.IoError.{error_kind};
 ghost use Rattle.std.specs.Vec.Iter.{into_iter_items};
 ghost use Rattle.scan_io.specs.Causes.{Rose};
 ghost use Rattle.scan_io.specs.Coming.{Grows, LosesFront};
-ghost use Rattle.fusion_cli.specs.Program.{Reports, is_out_of_memory as is_out_of_memory_of, is_usage, report_of};
-ghost use Rattle.fusion_cli.specs.Run.{Answers, CountsReads, CountsWrites, IsWhole};
+ghost use Rattle.fusion_cli.specs.Program.{Reports, command_in, is_out_of_memory as is_out_of_memory_of, is_usage, report_of};
+ghost use Rattle.fusion_cli.specs.Run.{Answered, CountsReads, CountsWrites, IsWhole, reads_source, text_for};
 ghost use Rattle.fusion_cli.specs.Status.{exit_code_of};
+ghost use Rattle.fusion_cli.specs.declared.words.Command.{Command};
 
 use crate::run::run_fusion;
 use crate::status::Status;
@@ -39,18 +40,19 @@ pub fn run_program<S: Source, K: Sink, E: Sink>(
     ensures line { Reports (E.written errors.old) (E.written errors.new) (E.faults errors.old) (E.faults errors.new) result.status }
 
     // The command is run over the arguments after the first.
-    ensures answer { Answers (S.left source.old) (S.left source.new) (K.written sink.old) (K.written sink.new) result.status }
+    ensures answer { Answered (command_in args) (S.left source.old) (S.left source.new) (K.written sink.old) (K.written sink.new) result.status }
     ensures usage { result.status ≡ Status.Usage → is_usage args ≡ true }
     ensures refused { is_usage args ≡ true → (result.status ≡ Status.Usage) ⊎ (result.status ≡ Status.NoMemory) }
-    ensures untouched { is_usage args ≡ true → (source.new ≡ source.old) × (sink.new ≡ sink.old) }
     ensures reads { CountsReads (S.faults source.old) (S.faults source.new) result.status }
     ensures writes { CountsWrites (K.faults sink.old) (K.faults sink.new) result.status }
     ensures front { LosesFront (S.left source.old) (S.left source.new) }
     ensures grows { Grows (K.written sink.old) (K.written sink.new) }
-    ensures complete { is_usage args ≡ false
+    ensures source { reads_source (command_in args) ≡ false → source.new ≡ source.old }
+    ensures sink { command_in args ≡ None → sink.new ≡ sink.old }
+    ensures complete { (command : Command) → command_in args ≡ Some command
         → ¬ Rose (S.faults source.old) (S.faults source.new)
         → ¬ Rose (K.faults sink.old) (K.faults sink.new)
-        → (result.status ≡ Status.NoMemory) ⊎ IsWhole (S.left source.old) (K.written sink.old) (K.written sink.new) result.status }
+        → (result.status ≡ Status.NoMemory) ⊎ IsWhole (text_for command (S.left source.old)) (K.written sink.old) (K.written sink.new) result.status }
 {
     let status = match words(alloc, args) {
         Ok(words) => run_fusion(alloc, &words, source, sink),
@@ -120,7 +122,10 @@ fn report<E: Sink>(alloc: Global, status: &Status, errors: &mut E)
     match status {
         Status::Done => {}
         Status::NoMemory => report_text(b"fusion: no memory\n", errors),
-        Status::Usage => report_text(b"fusion: usage: fuse\n", errors),
+        Status::Usage => report_text(
+            b"fusion: usage: fuse [--workers N] | demo SEED FRAMES [--workers N]\n",
+            errors,
+        ),
         Status::BadScan(_) => {
             if let Ok(line) = report_line(alloc, status) {
                 report_text(line.as_bytes(), errors);

@@ -1,20 +1,19 @@
-ghost use Rattle.std.specs.Prelude.{◌≡◌, ◌⊎◌, ◌↔◌, true, false, map, string_bytes, ℕ, take, OnOk, OnErr, IfOk, IfErr};
+ghost use Rattle.std.specs.Prelude.{◌≡◌, ◌⊎◌, ◌≤◌, Some, None, false, map, string_bytes, ℕ, take, OnOk, OnErr, IfErr};
 ghost use Rattle.std.specs.Io.KnownBytes.{Appends};
 ghost use Rattle.scan_io.specs.Causes.{Rose, HasCause};
 ghost use Rattle.scan_io.specs.Coming.{Grows, LosesFront};
-ghost use Rattle.session.specs.Answers.{state_of};
-ghost use Rattle.session.specs.Fold.{after, refusal_reply, reply_to};
-ghost use Rattle.scan_lang.specs.declared.entry.Entry.TheVariants as entries;
-ghost use Rattle.fusion_cli.specs.Run.{is_fuse as is_fuse_command, Answers, CountsReads, CountsWrites, IsRun, IsWhole, ended, stop_of, told};
+ghost use Rattle.scan_gen.specs.Generated.{generated_scan};
+ghost use Rattle.fusion_cli.specs.Run.{Answered, CountsReads, CountsWrites, IsDemo, IsRun, IsWhole, ended, reads_source, stop_of, text_for, told};
+ghost use Rattle.fusion_cli.specs.Words.{command_of};
+ghost use Rattle.fusion_cli.specs.declared.words.Command.{Command as Words};
 ghost use Rattle.fusion_cli.specs.declared.run.Stop.TheVariants.{NoMemory as no_memory};
 
 use crate::status::Status;
-use depth_frame::DepthFrame;
-use fixed_geom::{BadPose, PoseRows};
-use fusion_core::Refusal;
+use crate::words::{Command, WordError, read_words};
+use scan_gen::GenSource;
 use scan_io::{Sink, Source, put_all};
-use scan_lang::{BadScan, Entry, PointList, Reply, ScanError, ScanReader, VoxelList, reply_bytes};
-use session::{ReadError, RenderError, Session};
+use scan_lang::{BadScan, ScanError, ScanReader, reply_bytes};
+use session::Session;
 use std::alloc::Global;
 use voxel_block::NoMemory;
 
@@ -38,10 +37,10 @@ impl From<NoMemory> for Stop {
     }
 }
 
-impl From<ReadError> for Stop {
+impl From<scan_io::NoMemory> for Stop {
     ghost from_gives = { λ _ e. e ≡ no_memory };
 
-    fn from(_: ReadError) -> Self {
+    fn from(_: scan_io::NoMemory) -> Self {
         Stop::NoMemory
     }
 }
@@ -58,8 +57,9 @@ impl From<ScanError> for Stop {
     }
 }
 
-/// Runs the command that the words are, over a source and a sink: `fuse` reads a scan from the source, acts on its
-/// records in order, and writes the reply to each to the sink before it acts on the next.
+/// Runs the command that the words are. `fuse` reads a scan from the source, acts on its records in order, and writes the
+/// reply to each to the sink before it acts on the next. `demo` does the same with a generated scan, and leaves the source
+/// as it is.
 pub fn run_fusion<S: Source, K: Sink>(
     alloc: Global,
     words: &[String],
@@ -67,28 +67,31 @@ pub fn run_fusion<S: Source, K: Sink>(
     sink: &mut K,
 ) -> Status
     // What is written, and the status that says why it ends there.
-    ensures answer { Answers (S.left source.old) (S.left source.new) (K.written sink.old) (K.written sink.new) result }
+    ensures answer { Answered (command_of (map string_bytes words.now)) (S.left source.old) (S.left source.new) (K.written sink.old) (K.written sink.new) result }
 
     // When each refusal comes.
-    ensures usage { (result ≡ Status.Usage) ↔ (is_fuse_command (map string_bytes words.now) ≡ false) }
-    ensures untouched { result ≡ Status.Usage → (source.new ≡ source.old) × (sink.new ≡ sink.old) }
+    ensures usage { result ≡ Status.Usage → command_of (map string_bytes words.now) ≡ None }
     ensures reads { CountsReads (S.faults source.old) (S.faults source.new) result }
     ensures writes { CountsWrites (K.faults sink.old) (K.faults sink.new) result }
 
     // Whatever the status, the source lost a front, the sink gained bytes, and what told its bytes goes on telling them.
     ensures front { LosesFront (S.left source.old) (S.left source.new) }
     ensures grows { Grows (K.written sink.old) (K.written sink.new) }
+    ensures source { reads_source (command_of (map string_bytes words.now)) ≡ false → source.new ≡ source.old }
+    ensures sink { command_of (map string_bytes words.now) ≡ None → sink.new ≡ sink.old }
 
     // Where no count rose, all of it is written, unless it is out of memory.
-    ensures complete { is_fuse_command (map string_bytes words.now) ≡ true
+    ensures complete { (command : Words) → command_of (map string_bytes words.now) ≡ Some command
         → ¬ Rose (S.faults source.old) (S.faults source.new)
         → ¬ Rose (K.faults sink.old) (K.faults sink.new)
-        → (result ≡ Status.NoMemory) ⊎ IsWhole (S.left source.old) (K.written sink.old) (K.written sink.new) result }
+        → (result ≡ Status.NoMemory) ⊎ IsWhole (text_for command (S.left source.old)) (K.written sink.old) (K.written sink.new) result }
 {
-    if !is_fuse(words) {
-        return Status::Usage;
+    match read_words(alloc, words) {
+        Ok(Command::Fuse { .. }) => status_of(run_scan(alloc, source, sink)),
+        Ok(Command::Demo { seed, frames, .. }) => status_of(run_demo(alloc, seed, frames, sink)),
+        Err(WordError::Usage) => Status::Usage,
+        Err(WordError::NoMemory) => Status::NoMemory,
     }
-    status_of(run_scan(alloc, source, sink))
 }
 
 /// The status of a run.
@@ -104,14 +107,14 @@ fn status_of(run: Result<(), Stop>) -> Status
     }
 }
 
-/// Whether the words are the one word `fuse`.
-fn is_fuse(words: &[String]) -> bool
-    ensures { result ≡ is_fuse_command (map string_bytes words.now) }
+/// Acts on the records of a generated scan in order, and writes the reply to each.
+fn run_demo<K: Sink>(alloc: Global, seed: u32, frames: u32, sink: &mut K) -> Result<(), Stop>
+    requires least { 1 ≤ frames }
+    requires most { frames ≤ 1000 }
+    ensures { IsDemo (generated_scan seed frames) (told (K.written sink.old) (K.faults sink.old)) (told (K.written sink.new) (K.faults sink.new)) (ended result) }
 {
-    match words {
-        [word] => word.as_str() == "fuse",
-        _ => false,
-    }
+    let mut source = GenSource::make(alloc, seed, frames)?;
+    run_scan(alloc, &mut source, sink)
 }
 
 /// Acts on the records of a scan in order, and writes the reply to each.
@@ -124,7 +127,7 @@ fn run_scan<S: Source, K: Sink>(alloc: Global, source: &mut S, sink: &mut K) -> 
     for _ in 0..RECORDS_LIMIT {
         let entry = reader.next(alloc, source)?;
         let is_end = entry.is_end();
-        let reply = act(alloc, &mut session, entry)?;
+        let reply = session.answer(alloc, entry)?;
         let bytes = reply_bytes(alloc, &reply)?;
         put_reply(sink, &bytes)?;
         if is_end {
@@ -133,73 +136,6 @@ fn run_scan<S: Source, K: Sink>(alloc: Global, source: &mut S, sink: &mut K) -> 
     }
     // Unreachable: the reader gives no more records than a scan may have lines.
     Ok(())
-}
-
-/// Acts on an entry, and gives the reply to it.
-fn act(alloc: Global, session: &mut Session, entry: Entry) -> Result<Reply, Stop>
-    ensures reply { IfOk result (λ r. r ≡ reply_to session.old.config (state_of session.old) entry) }
-    ensures state { OnOk result (state_of session.new ≡ after session.old.config (state_of session.old) entry) }
-    ensures config { session.new.config ≡ session.old.config }
-    ensures error { IfErr result (λ e. e ≡ Stop.NoMemory) }
-{
-    match entry {
-        Entry::Frame(rows, depths) => fuse(alloc, session, &rows, depths),
-        Entry::Collect => Ok(Reply::Collected(session.collect()?)),
-        Entry::Render => render(alloc, session),
-        Entry::Voxels => {
-            let (blocks, known) = session.voxels(alloc)?;
-            Ok(Reply::Voxels(blocks, VoxelList::make(known)))
-        }
-        Entry::Points => Ok(Reply::Points(PointList::make(session.points(alloc)?))),
-        Entry::Sum => Ok(Reply::Totals(session.totals()?)),
-        Entry::Place(key) => Ok(Reply::Place(session.place_of(key))),
-        Entry::End => Ok(Reply::End),
-    }
-}
-
-/// Renders the map, and gives the reply to a request for a picture.
-fn render(alloc: Global, session: &Session) -> Result<Reply, Stop>
-    ensures reply { IfOk result (λ r. r ≡ reply_to session.now.config (state_of session.now) entries.Render) }
-    ensures error { IfErr result (λ e. e ≡ Stop.NoMemory) }
-{
-    match session.render(alloc) {
-        Ok(picture) => Ok(Reply::Picture(picture.frame, picture.image)),
-        Err(RenderError::NoFrame) => Ok(Reply::NoFrame),
-        Err(RenderError::NoMemory) => Err(Stop::NoMemory),
-    }
-}
-
-/// Fuses a frame, and gives the reply to it.
-fn fuse(
-    alloc: Global,
-    session: &mut Session,
-    rows: &PoseRows,
-    depths: DepthFrame,
-) -> Result<Reply, Stop>
-    ensures reply { IfOk result (λ r. r ≡ reply_to session.old.config (state_of session.old) (entries.Frame rows.now depths)) }
-    ensures state { OnOk result (state_of session.new ≡ after session.old.config (state_of session.old) (entries.Frame rows.now depths)) }
-    ensures config { session.new.config ≡ session.old.config }
-    ensures error { IfErr result (λ e. e ≡ Stop.NoMemory) }
-{
-    match session.frame(alloc, rows, depths) {
-        Ok(done) => Ok(Reply::Frame(done)),
-        Err(why) => match why.refusal() {
-            Some(refusal) => Ok(refused(refusal)),
-            None => Err(Stop::NoMemory),
-        },
-    }
-}
-
-/// The reply to a frame that is refused.
-fn refused(why: Refusal) -> Reply
-    ensures { result ≡ refusal_reply why }
-{
-    match why {
-        Refusal::Size { .. } => Reply::Size,
-        Refusal::BadPose(BadPose::Range) => Reply::PoseRange,
-        Refusal::BadPose(BadPose::NotRotation) => Reply::PoseRotation,
-        Refusal::HeapSpent { limit } => Reply::HeapSpent(limit),
-    }
 }
 
 /// Writes the bytes of a reply.

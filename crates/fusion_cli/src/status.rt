@@ -71,7 +71,10 @@ fn written(alloc: Global, status: &Status) -> Result<String, AllocError>
     match status {
         Status::Done => String::from_str(alloc, ""),
         Status::NoMemory => String::from_str(alloc, "fusion: no memory"),
-        Status::Usage => String::from_str(alloc, "fusion: usage: fuse"),
+        Status::Usage => String::from_str(
+            alloc,
+            "fusion: usage: fuse [--workers N] | demo SEED FRAMES [--workers N]",
+        ),
         Status::BadScan(why) => refused_line(alloc, *why),
         Status::ReadFault => String::from_str(alloc, "fusion: read fault"),
         Status::WriteFault => String::from_str(alloc, "fusion: write fault"),

@@ -193,3 +193,13 @@ fn a_feed_can_be_sent(rt: HostRuntime) -> Result<(), Fail> {
     sent(feed);
     Ok(())
 }
+
+#[test]
+fn a_path_has_its_text(rt: HostRuntime) -> Result<(), Fail> {
+    let alloc = rt.alloc();
+    for text in ["", "maps/chunks", "a folder/ä"] {
+        let path = PathText::make(String::from_str(alloc, text)?);
+        assert_eq!(rt; path.into_text().as_str(), text);
+    }
+    Ok(())
+}

@@ -105,6 +105,12 @@ impl From<AllocError> for ReadError {
     }
 }
 
+impl From<ReadError> for NoMemory {
+    fn from(_: ReadError) -> Self {
+        NoMemory
+    }
+}
+
 /// Why there is no picture.
 #[derive(Clone, Copy, Debug, PartialEq, Eq)]
 pub enum RenderError {

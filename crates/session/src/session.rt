@@ -27,6 +27,8 @@ use std::alloc::Global;
 use std::marker::Model;
 use voxel_block::{BlockKey, NoMemory};
 
+mod answer;
+
 /// The map of the frames so far, their number, and the pose of the last one, under a configuration.
 ///
 /// A block is resident, which means that it lies in the heap, exactly where it is active for the last frame.

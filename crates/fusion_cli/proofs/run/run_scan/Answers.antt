@@ -43,7 +43,7 @@ pub returns-in_err-reply : goal.returns-in_err-reply
 returns-in_err-reply g c =
     let p = err_from_is_err_and c.from_residual-in_err-reply.result c.from_residual-in_err-reply.ensures.1 in
     let read = c.in_ok-entry.ensures.entry in
-    rw (p.1, p.2, c.in_err-reply.ensures.error) (exit_memory c.loop.session.config _ _ _ _ c.loop.reader.left c.loop.reader.kept.given (state_of c.loop.session) _ _ (loses_more read.front (loses_feed c.next.new.self.kept _)) read.faults c.loop.invariant.run)
+    rw (p.1, p.2) (exit_memory c.loop.session.config _ _ _ _ c.loop.reader.left c.loop.reader.kept.given (state_of c.loop.session) _ _ (loses_more read.front (loses_feed c.next.new.self.kept _)) read.faults c.loop.invariant.run)
 
 pub returns-in_err-bytes : goal.returns-in_err-bytes
 returns-in_err-bytes g c =

@@ -1,5 +1,0 @@
-use Rattle.crossing_export.proofs.PlyLemmas.{text_written}
-use Rattle.crossing_export.proofs.ply.append_ply.Goals as goal
-
-pub returns : goal.returns
-returns c = text_written c.args.list.now c.args.bytes.now.items c.loop-point.bytes.items c.loop-point.point-index c.loop-point-test.false c.loop-point.invariant

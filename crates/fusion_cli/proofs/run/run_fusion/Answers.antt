@@ -1,0 +1,12 @@
+use Rattle.std.proofs.Common.{◌∙◌, ap, map, string_bytes, Some}
+use Rattle.fusion_cli.proofs.WordLemmas.{frames_bound}
+use Rattle.fusion_cli.proofs.run.run_fusion.Goals as goal
+
+pub run_demo-requires-clause-least : goal.run_demo-requires-clause-least
+run_demo-requires-clause-least g c = (frames_bound (map string_bytes c.args.words.now) c.in-Ok-Demo.seed c.in-Ok-Demo.frames c.in-Ok-Demo.field-0-2 (c.in-Ok-Demo.ensures ∙ ap Some c.in-Ok-Demo.field-0-is)).0
+
+pub run_demo-requires-clause-most : goal.run_demo-requires-clause-most
+run_demo-requires-clause-most g c = (frames_bound (map string_bytes c.args.words.now) c.in-Ok-Demo.seed c.in-Ok-Demo.frames c.in-Ok-Demo.field-0-2 (c.in-Ok-Demo.ensures ∙ ap Some c.in-Ok-Demo.field-0-is)).1
+
+pub returns-in-Ok-Demo-clause-answer : goal.returns-in-Ok-Demo-clause-answer
+returns-in-Ok-Demo-clause-answer g c = rw (c.in-Ok-Demo.ensures, c.in-Ok-Demo.field-0-is, c.status_of-in-Ok-Demo.ensures) c.run_demo.ensures.answer
