@@ -1,3 +1,2 @@
 mod RunLemmas
-pub mod WordLemmas
 pub mod CommandLemmas

@@ -11,10 +11,10 @@ use Rattle.std.specs.declared.vec.IntoIter.{IntoIter}
 use Rattle.scan_io.specs.Causes.{Rose}
 use Rattle.scan_lang.specs.declared.error.BadScan.{BadScan as BadScanValue}
 use Rattle.fusion_cli.specs.Status.{text_of}
-use Rattle.fusion_cli.specs.Words.{command_of}
+use Rattle.command_words.specs.Words.{command_of}
 use Rattle.fusion_cli.specs.declared.status.Status.{Status}
 use Rattle.fusion_cli.specs.declared.status.Status.TheVariants.{Done, NoMemory, Usage, BadScan, ReadFault, WriteFault}
-use Rattle.fusion_cli.specs.declared.words.Command.{Command}
+use Rattle.command_words.specs.declared.words.Command.{Command}
 
 -- the arguments as the system gives them, the program's name first; one that is no UTF-8 is an error
 abbrev pub Arguments : Type 0

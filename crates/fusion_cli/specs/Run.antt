@@ -5,8 +5,8 @@ use Rattle.fusion_cli.specs.declared.status.Status.{Status}
 use Rattle.fusion_cli.specs.declared.status.Status.TheVariants.{Done, NoMemory, Usage, BadScan, ReadFault, WriteFault}
 use Rattle.fusion_cli.specs.declared.run.Stop.{Stop}
 use Rattle.fusion_cli.specs.declared.run.Stop.TheVariants as stops
-use Rattle.fusion_cli.specs.declared.words.Command.{Command}
-use Rattle.fusion_cli.specs.declared.words.Command.TheVariants.{Fuse, Demo}
+use Rattle.command_words.specs.declared.words.Command.{Command}
+use Rattle.command_words.specs.declared.words.Command.TheVariants.{Fuse, Demo}
 use Rattle.scan_gen.specs.Generated.{generated_scan}
 use Rattle.scan_io.specs.Causes.{Rose}
 use Rattle.scan_io.specs.Coming.{Grows, LosesFront}

@@ -6,7 +6,6 @@ mod run;
 mod status;
 #[cfg(test)]
 mod tests;
-mod words;
 
 use program::run_program;
 use scan_io::{StdSink, StdSource};

@@ -7,7 +7,7 @@ ghost use Rattle.scan_io.specs.Coming.{Grows, LosesFront};
 ghost use Rattle.fusion_cli.specs.Program.{Reports, command_in, is_out_of_memory as is_out_of_memory_of, is_usage, report_of};
 ghost use Rattle.fusion_cli.specs.Run.{Answered, CountsReads, CountsWrites, IsWhole, reads_source, text_for};
 ghost use Rattle.fusion_cli.specs.Status.{exit_code_of};
-ghost use Rattle.fusion_cli.specs.declared.words.Command.{Command};
+ghost use Rattle.command_words.specs.declared.words.Command.{Command};
 
 use crate::run::run_fusion;
 use crate::status::Status;
@@ -20,7 +20,9 @@ use voxel_block::NoMemory;
 /// How the program ended, and its exit status.
 #[derive(Clone, Copy, Debug, PartialEq, Eq)]
 pub struct Exit {
+    /// What the run answered.
     pub status: Status,
+    /// The exit status of the process.
     pub code: u8,
 }
 

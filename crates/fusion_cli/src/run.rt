@@ -4,12 +4,12 @@ ghost use Rattle.scan_io.specs.Causes.{Rose, HasCause};
 ghost use Rattle.scan_io.specs.Coming.{Grows, LosesFront};
 ghost use Rattle.scan_gen.specs.Generated.{generated_scan};
 ghost use Rattle.fusion_cli.specs.Run.{Answered, CountsReads, CountsWrites, IsDemo, IsRun, IsWhole, ended, reads_source, stop_of, text_for, told};
-ghost use Rattle.fusion_cli.specs.Words.{command_of};
-ghost use Rattle.fusion_cli.specs.declared.words.Command.{Command as Words};
+ghost use Rattle.command_words.specs.Words.{command_of};
+ghost use Rattle.command_words.specs.declared.words.Command.{Command as Words};
 ghost use Rattle.fusion_cli.specs.declared.run.Stop.TheVariants.{NoMemory as no_memory};
 
 use crate::status::Status;
-use crate::words::{Command, WordError, read_words};
+use command_words::{Command, WordError, read_words};
 use scan_gen::GenSource;
 use scan_io::{Sink, Source, put_all};
 use scan_lang::{BadScan, ScanError, ScanReader, reply_bytes};
@@ -23,9 +23,13 @@ const RECORDS_LIMIT: u32 = 1_000_000;
 /// Why a run stops before the end of the scan.
 #[derive(Clone, Copy, Debug, PartialEq, Eq)]
 pub enum Stop {
+    /// Out of memory.
     NoMemory,
+    /// The scan is refused.
     BadScan(BadScan),
+    /// A read of the source failed.
     ReadFault,
+    /// A write to the sink failed.
     WriteFault,
 }
 
@@ -59,7 +63,8 @@ impl From<ScanError> for Stop {
 
 /// Runs the command that the words are. `fuse` reads a scan from the source, acts on its records in order, and writes the
 /// reply to each to the sink before it acts on the next. `demo` does the same with a generated scan, and leaves the source
-/// as it is.
+/// as it is. Words that are no command are answered with `Usage`, or it is out of memory; nothing is read then, and nothing
+/// is written.
 pub fn run_fusion<S: Source, K: Sink>(
     alloc: Global,
     words: &[String],

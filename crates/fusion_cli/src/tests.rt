@@ -9,7 +9,6 @@ mod ends;
 mod maps;
 mod program;
 mod scans;
-mod words;
 
 const BASE: &str =
     "{\"version\":1,\"width\":1,\"height\":1,\"fx\":65536,\"fy\":65536,\"cx\":0,\"cy\":0,\"unit\":1000,\"near\":500000,\"far\":2000000,\"voxel\":10000,\"mu\":40000,\"max_weight\":255,\"radius\":2100000,\"centre\":1020000,\"heap_blocks\":64,\"buckets\":16,\"empty_f\":30000}\n";

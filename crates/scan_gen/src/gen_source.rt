@@ -33,7 +33,11 @@ impl Model for GenSource {
 }
 
 impl GenSource {
-    /// The scan of a seed, with this many frames.
+    /// The scan of a seed, with this many frames, from 1 to 1000.
+    ///
+    /// # Errors
+    ///
+    /// Out of memory. No later call takes memory.
     pub fn make(alloc: Global, seed: u32, frames: u32) -> Result<GenSource, NoMemory>
         requires least { 1 ≤ frames }
         requires most { frames ≤ 1000 }

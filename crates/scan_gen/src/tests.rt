@@ -1,4 +1,7 @@
 use super::*;
+use crate::ball::ball_of;
+use crate::depth::{depth, row_depth};
+use crate::view::view_of;
 use scan_io::Source;
 use std::alloc::Global;
 use std::test::Fail;
@@ -48,6 +51,16 @@ fn samples_of_three_seeds(rt: HostRuntime) -> Result<(), Fail> {
         assert_eq!(rt; sample(&text, 320, 479), 2192);
         assert_eq!(rt; sample(&text, u, v), ball);
     }
+    Ok(())
+}
+
+// The left wall in the first column: 1400000 * 34406400 / 20938752.
+#[test]
+fn the_left_wall_is_met(rt: HostRuntime) -> Result<(), Fail> {
+    let view = view_of(ball_of(7), 0);
+    let dy = -15_695_872;
+    let row = row_depth(&view, dy);
+    assert_eq!(rt; depth(&view, row, -20_938_752, dy), 2_300_469);
     Ok(())
 }
 

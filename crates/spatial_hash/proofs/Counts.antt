@@ -63,3 +63,8 @@ linked_few t s =
     let l : len (from_entries {R = key_cmp} (pairs_from (entries_in t) t 0)) ≡ length (pairs_from (entries_in t) t 0) = len_from (pairs_from (entries_in t) t 0) (pairs_distinct (entries_in t) t 0 s (omega arith)) in
     let c : t.linked ≤ length (pairs_from (entries_in t) t 0) + (0 - 4 * t.buckets) = count_nodes t (entries_in t) 0 s (omega arith) in
     omega arith
+
+-- a table has as many keys as filled entries
+pub len_contents : (t : Table) → IsSound t → len (contents t) ≡ length (pairs_from (entries_in t) t 0)
+unfolding contents
+len_contents t s = len_from (pairs_from (entries_in t) t 0) (pairs_distinct (entries_in t) t 0 s (omega arith))

@@ -1,5 +1,5 @@
 -- What a look-up of a word in bucket h finds.
-use Rattle.std.specs.Prelude.{◌≡◌, ℕ, ◌+◌, ◌*◌, ◌^◌, ◌<◌, ◌≤◌, Some, None, slice_index}
+use Rattle.std.specs.Prelude.{◌≡◌, ◌≢◌, ◌⊎◌, ℕ, ◌+◌, ◌*◌, ◌^◌, ◌<◌, ◌≤◌, Some, None, slice_index}
 use Rattle.std.specs.FinMap.{get}
 use Rattle.voxel_block.specs.declared.key.BlockKey.{BlockKey}
 use Rattle.spatial_hash.specs.Contents.{contents}
@@ -42,3 +42,9 @@ pub record IsNew (t : Table) (w : ℕ) : Type 0 where
   pub named : w ≤ 2 ^ 48
   pub at_home : home_of t.buckets w < t.buckets
   pub absent : first_with t w (walk_of t (home_of t.buckets w)) ≡ None
+
+-- entry e took the word w of bucket h: the first free entry of the bucket, or, where this is filled, the first unlinked node
+pub record Puts (t u : Table) (w h e : ℕ) : Type 0 where
+  pub here : key_word u e ≡ w
+  pub others : (d : ℕ) → d < entries_in t → d ≢ e → key_word u d ≡ key_word t d
+  pub at : IsFreeAt t h e ⊎ (IsFilled t h × (e ≡ 4 * t.buckets + t.linked))

@@ -78,6 +78,22 @@ impl HashTable {
         })
     }
 
+    /// A table of the same size with no key.
+    pub fn cleared(&self, alloc: Global) -> Result<HashTable, NoMemory>
+        ensures table { IfOk result (λ t. t ≡ empty_table self.now.buckets self.now.nodes) }
+        ensures map { IfOk result (λ t. contents t ≡ no_keys) }
+    {
+        let words = Vec::from_elem(alloc, 0, 5 * self.buckets + 2 * self.nodes)?;
+        let cells = Vec::from_elem(alloc, u32::MAX, 4 * self.buckets + self.nodes)?;
+        Ok(HashTable {
+            buckets: self.buckets,
+            nodes: self.nodes,
+            linked: 0,
+            words,
+            cells,
+        })
+    }
+
     /// Makes the table a copy of another one of the same size. Takes no memory.
     pub fn copy_from(&mut self, other: &HashTable)
         requires buckets { self.old.buckets ≡ other.now.buckets }

@@ -25,17 +25,18 @@ fn scans_that_are_cut_off_end_there(rt: HostRuntime) -> Result<(), Fail> {
 #[test]
 fn scans_have_at_most_a_million_lines(rt: HostRuntime) -> Result<(), Fail> {
     let alloc = rt.alloc();
-    for (empty, end) in [
-        (999_998, Status::Done),
-        (999_999, refused(1_000_232, BadWhat::Lines)),
+    for (empty, end, written) in [
+        (999_998, Status::Done, END),
+        (999_999, refused(1_000_232, BadWhat::Lines), ""),
     ] {
         let mut text = config(alloc, "", "")?;
         for _ in 0..empty {
             text.push(b'\n')?;
         }
         text.extend_from_slice(END.as_bytes())?;
-        let (status, _) = run_on(alloc, text, 4096, Vec::new(alloc), Vec::new(alloc))?;
+        let (status, sink) = run_on(alloc, text, 4096, Vec::new(alloc), Vec::new(alloc))?;
         assert_eq!(rt; status, end);
+        assert_eq!(rt; sink.bytes(), written.as_bytes());
     }
     Ok(())
 }

@@ -98,6 +98,30 @@ fn the_program_reports_its_status(rt: HostRuntime) -> Result<(), Fail> {
     Ok(())
 }
 
+// Nothing is read: the source fails at its first call.
+#[test]
+fn words_that_are_no_command_read_nothing(rt: HostRuntime) -> Result<(), Fail> {
+    let alloc = rt.alloc();
+    for line in [
+        "",
+        "frobnicate",
+        "fuse --workers 0",
+        "fuse --workers 65",
+        "demo 7",
+        "demo 7 0",
+    ] {
+        let words = words_of(alloc, line)?;
+        let text = BASE.as_bytes().to_vec(alloc)?;
+        let mut source = MemSource::make(text, 1, vec![in alloc; 0]?);
+        let mut sink = MemSink::make(alloc, 64, 64, Vec::new(alloc))?;
+        let status = run_fusion(alloc, &words, &mut source, &mut sink);
+        assert_eq!(rt; status, Status::Usage, "{line}");
+        assert_eq!(rt; sink.bytes(), b"".as_slice(), "{line}");
+        assert_eq!(rt; source.faults(), 0, "{line}");
+    }
+    Ok(())
+}
+
 #[test]
 fn a_scan_is_answered_with_any_number_of_workers(rt: HostRuntime) -> Result<(), Fail> {
     let alloc = rt.alloc();

@@ -38,6 +38,7 @@ impl Session {
             Entry::Sum => Ok(Reply::Totals(self.totals()?)),
             Entry::Place(key) => Ok(Reply::Place(self.place_of(key))),
             Entry::End => {
+                // The look at a field is what tells that the session stands.
                 let _ = &self.config;
                 Ok(Reply::End)
             }

@@ -8,12 +8,13 @@ use crate::lookup::Lookup;
 use voxel_block::BlockKey;
 
 impl HashTable {
-    ghost use Rattle.spatial_hash.specs.Hash.{home};
+    ghost use Rattle.spatial_hash.specs.Hash.{home, bucket_of};
+    ghost use Rattle.voxel_block.specs.Words.{word_of};
     ghost use Rattle.spatial_hash.specs.Changes.{written, extended};
     ghost use Rattle.spatial_hash.specs.Walk.{entry_of, IsFilled, IsFullFor, StaysPut, nodes_for};
     ghost use Rattle.spatial_hash.specs.Contents.{contents, IsKeyAt};
     ghost use Rattle.spatial_hash.specs.Sound.{EndsAt};
-    ghost use Rattle.spatial_hash.specs.Lookup.{IsFreeAt, IsNew};
+    ghost use Rattle.spatial_hash.specs.Lookup.{IsFreeAt, IsNew, Puts};
     ghost use Rattle.spatial_hash.specs.Table.{KeepsSize};
 
     /// Inserts a new key with its cell, and returns the key's entry.
@@ -29,6 +30,7 @@ impl HashTable {
         ensures key { IfOk result (λ e. IsKeyAt self.new key e) }
         ensures cell { IfOk result (λ e. slice_index self.new.cells e ≡ cell) }
         ensures others { StaysPut self.old self.new key }
+        ensures puts { IfOk result (λ e. Puts self.old self.new (word_of key) (bucket_of self.old.buckets key) e) }
         ensures size { KeepsSize self.old self.new }
         ensures count { self.new.linked ≡ self.old.linked + (if is_ok result then nodes_for self.old key else 0) }
     {

@@ -1,5 +1,5 @@
 use Rattle.std.proofs.Common.{◌∙◌, ap, map, string_bytes, Some}
-use Rattle.fusion_cli.proofs.WordLemmas.{frames_bound}
+use Rattle.command_words.proofs.WordLemmas.{frames_bound}
 use Rattle.fusion_cli.proofs.run.run_fusion.Goals as goal
 
 pub run_demo-requires-clause-least : goal.run_demo-requires-clause-least

@@ -98,3 +98,9 @@ returns-in-Vacant-clause-others c = (filled (goal.at.returns-in-Vacant-clause-ot
 
 pub returns-else-self-clause-others : goal.returns-else-self-clause-others
 returns-else-self-clause-others c = (extended_at (goal.at.returns-else-self-clause-others c).After-seek c.in-ChainEnd.ensures.lookup.1 c.in-ChainEnd.ensures.lookup.2 c.if-self.false c.extend-entry.ensures.table c.extend-entry.ensures.entry).others
+
+pub returns-in-Vacant-clause-puts : goal.returns-in-Vacant-clause-puts
+returns-in-Vacant-clause-puts c = (filled (goal.at.returns-in-Vacant-clause-puts c).After-seek c.in-Vacant.ensures.lookup.1 c.fill.ensures).puts
+
+pub returns-else-self-clause-puts : goal.returns-else-self-clause-puts
+returns-else-self-clause-puts c = (extended_at (goal.at.returns-else-self-clause-puts c).After-seek c.in-ChainEnd.ensures.lookup.1 c.in-ChainEnd.ensures.lookup.2 c.if-self.false c.extend-entry.ensures.table c.extend-entry.ensures.entry).puts

@@ -1,7 +1,17 @@
-use super::words_of;
-use crate::words::{Command, WordError, read_words};
+use super::*;
 use std::alloc::Global;
 use std::test::Fail;
+
+// The words of a line.
+fn words_of(alloc: Global, line: &str) -> Result<Vec<String>, Fail> {
+    let mut words = Vec::new(alloc);
+    for word in line.split(' ') {
+        if !word.is_empty() {
+            words.push(String::from_str(alloc, word)?)?;
+        }
+    }
+    Ok(words)
+}
 
 // What words are: the seed and the frames of a demo, and the workers; none where they are no command.
 type Read = Option<(Option<(u32, u32)>, u32)>;

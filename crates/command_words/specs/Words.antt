@@ -9,10 +9,10 @@ use Rattle.clap.specs.Simple.{on_top}
 use Rattle.clap.specs.Words.{App, Kinds, Row, Rule, Text, fault_of, first_of, new_app, new_rule, subcommand_of, with_rule, with_subcommand}
 use Rattle.clap.specs.declared.error.kind.ErrorKind.{ErrorKind}
 use Rattle.clap.specs.declared.error.kind.ErrorKind.TheVariants as kinds
-use Rattle.fusion_cli.specs.declared.words.Command.{Command}
-use Rattle.fusion_cli.specs.declared.words.Command.TheVariants.{Fuse, Demo}
-use Rattle.fusion_cli.specs.declared.words.WordError.{WordError}
-use Rattle.fusion_cli.specs.declared.words.WordError.TheVariants as errors
+use Rattle.command_words.specs.declared.words.Command.{Command}
+use Rattle.command_words.specs.declared.words.Command.TheVariants.{Fuse, Demo}
+use Rattle.command_words.specs.declared.words.WordError.{WordError}
+use Rattle.command_words.specs.declared.words.WordError.TheVariants as errors
 
 -- ---- the command line, as `clap` sees it
 

@@ -12,11 +12,11 @@ use Rattle.clap.proofs.OnLiterals.{clap_on_literals}
 use Rattle.clap.specs.Words.{App, HasKind, HasMatchesOf, Kinds, Row, Text, fault_of, first_of, is_simple, is_simple_and_free, kind_of, subcommand_of, subcommand_rows_of}
 use Rattle.clap.specs.declared.error.Error.{Error}
 use Rattle.clap.specs.declared.parser.matches.ArgMatches.{ArgMatches}
-use Rattle.fusion_cli.specs.Words.{command_named, command_of, command_without, demo_of, error_of, fuse_of, is_number, number_given, number_in, program_app, workers_of}
-use Rattle.fusion_cli.specs.declared.words.Command.TheVariants.{Fuse, Demo}
-use Rattle.fusion_cli.specs.declared.words.Command.{Command}
-use Rattle.fusion_cli.specs.declared.words.WordError.{WordError}
-use Rattle.fusion_cli.specs.declared.words.WordError.TheVariants as errors
+use Rattle.command_words.specs.Words.{command_named, command_of, command_without, demo_of, error_of, fuse_of, is_number, number_given, number_in, program_app, workers_of}
+use Rattle.command_words.specs.declared.words.Command.TheVariants.{Fuse, Demo}
+use Rattle.command_words.specs.declared.words.Command.{Command}
+use Rattle.command_words.specs.declared.words.WordError.{WordError}
+use Rattle.command_words.specs.declared.words.WordError.TheVariants as errors
 
 -- ---- the command line
 

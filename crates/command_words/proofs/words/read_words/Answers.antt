@@ -1,8 +1,8 @@
 use Rattle.std.proofs.Common.{◌∙◌, sym, map, string_bytes}
 use Rattle.std.proofs.lemmas.Result.{err_from_is_err_and}
 use Rattle.clap.specs.Words.{app_of}
-use Rattle.fusion_cli.proofs.WordLemmas.{command_found, command_refused}
-use Rattle.fusion_cli.proofs.words.read_words.Goals as goal
+use Rattle.command_words.proofs.WordLemmas.{command_found, command_refused}
+use Rattle.command_words.proofs.words.read_words.Goals as goal
 
 pub returns-in_err-matches : goal.returns-in_err-matches
 returns-in_err-matches c =

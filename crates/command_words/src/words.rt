@@ -3,8 +3,8 @@ ghost use Rattle.std.specs.Char.{is_ascii_digit as digit_test};
 ghost use Rattle.std.specs.List.{list_all};
 ghost use Rattle.clap.specs.Words.{app_of, first_of, found_of, kind_of, rows_of, rule_of, subcommand_rows_of};
 ghost use Rattle.clap.specs.declared.builder.command.Command.TheViews.{out-Command as fields_of};
-ghost use Rattle.fusion_cli.specs.Words.{command_named, command_of, demo_app, demo_of, error_of, fuse_app, fuse_of, is_number as is_number_of, number_given as number_given_of, number_in, program_app, required_rule, workers_of, workers_rule};
-ghost use Rattle.fusion_cli.specs.declared.words.WordError.TheVariants as errors;
+ghost use Rattle.command_words.specs.Words.{command_named, command_of, demo_app, demo_of, error_of, fuse_app, fuse_of, is_number as is_number_of, number_given as number_given_of, number_in, program_app, required_rule, workers_of, workers_rule};
+ghost use Rattle.command_words.specs.declared.words.WordError.TheVariants as errors;
 
 use clap::error::ErrorKind;
 use clap::{Arg, ArgMatches};
@@ -70,6 +70,10 @@ impl From<clap::Error> for WordError {
 }
 
 /// The command that words are. They don't include the program's name.
+///
+/// # Errors
+///
+/// `Usage` where the words are no command. Out of memory with any words, since they are taken apart in memory.
 pub fn read_words(alloc: Global, words: &[String]) -> Result<Command, WordError>
     ensures { MatchResult result (λ c. command_of (map string_bytes words.now) ≡ Some c) (λ e. e ≡ WordError.Usage → command_of (map string_bytes words.now) ≡ None) }
 {

@@ -1,0 +1,9 @@
+//! The words of the command line: which command they are.
+#![tactic(auto)]
+
+mod words;
+
+pub use words::{Command, WordError, read_words};
+
+#[cfg(test)]
+mod tests;
