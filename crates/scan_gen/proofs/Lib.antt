@@ -1,4 +1,5 @@
 pub mod Depths
+pub mod Outside
 pub mod Pieces
 pub mod Products
 pub mod Rasters

@@ -37,3 +37,22 @@ root_is n q low high = greatest_is n q n low high (own q n low)
     own : (q n : ℕ) → q * q ≤ n → q ≤ n
     own zero n h = omega arith
     own (suc q) n h = let more : suc q * 1 ≤ suc q * suc q = mul-le (suc q) 1 (suc q) (suc q) (omega arith) (omega arith) in omega arith
+
+-- the root's square is at most the number
+small_step : (n k : ℕ) (b : Bool) → nat_le (suc k * suc k) n ≡ b → greatest_root n k * greatest_root n k ≤ n → (if b then suc k else greatest_root n k) * (if b then suc k else greatest_root n k) ≤ n
+small_step n k true test more = grind (arith, nat_tests)
+small_step n k false test more = more
+
+greatest_small : (n k : ℕ) → greatest_root n k * greatest_root n k ≤ n
+greatest_small n zero = omega arith
+greatest_small n (suc k) = small_step n k (nat_le (suc k * suc k) n) refl (greatest_small n k)
+
+next_square : (q : ℕ) → q * q < suc q * suc q
+next_square q = omega (arith, mul-le q q q (suc q) (omega arith) (omega arith))
+
+-- the root of a number that is at most the square of q is at most q
+pub root_least : (n q : ℕ) → n ≤ q * q → root n ≤ q
+unfolding root
+root_least n q le =
+    let less : greatest_root n n < suc q = square_less (greatest_root n n) (suc q) (omega (arith, next_square q, greatest_small n n)) in
+    omega arith

@@ -63,6 +63,8 @@ pub record IsInBounds (w : View) : Type 0 where
   pub offset : AreWithin (pos 4194304) w.offset
   -- 2^51
   pub power : IsWithin (pos 2251799813685248) w.power
+  -- the frame stands outside the ball
+  pub outside : pos 0 ≤ℤ w.power
 
 -- ---- pixels
 
@@ -101,7 +103,7 @@ unfoldable pub root : ℕ → ℕ
 root n = greatest_root n n
 
 -- how deep a ball is met: along is the product of the ray and the offset of its centre, discriminant that of the equation for the points of the ray on the ball.
--- It is met where it is before the camera and the equation has a solution; the lesser one is the near side. From outside the ball, where every frame stands, along is at least the root
+-- It is met where it is before the camera and the equation has a solution; the lesser one is the near side. Every frame stands outside the ball, so along is at least the root: `near_side` in src/depth.rt subtracts them as they are
 abbrev pub near_side : (squared : ℕ) → (along discriminant : ℤ) → List ℕ
 near_side squared along discriminant =
     if int_lt (pos 0) along && le_z (pos 0) discriminant then focal * (unsigned_abs along - root (unsigned_abs discriminant)) / squared ∷ [] else []

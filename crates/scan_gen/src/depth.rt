@@ -1,6 +1,6 @@
-ghost use Rattle.std.specs.Prelude.{◌≡◌, ◌≤◌, ◌+◌, ◌-◌, ◌*◌, ◌^◌, pos, ◌-ℤ◌, ◌*ℤ◌, unsigned_abs, option_to_list};
+ghost use Rattle.std.specs.Prelude.{◌≡◌, ◌≤◌, ◌+◌, ◌-◌, ◌*◌, ◌^◌, pos, ◌-ℤ◌, ◌*ℤ◌, ◌≤ℤ◌, unsigned_abs, option_to_list};
 ghost use Rattle.fixed_geom.specs.Vectors.{IsWithin};
-ghost use Rattle.scan_gen.specs.Scene.{IsInBounds, back_wall as back_wall_of, ball_met as ball_met_of, depth as depth_of, discriminant_of, least, near_side as near_side_of, plane_met as plane_met_of, ray_square};
+ghost use Rattle.scan_gen.specs.Scene.{IsInBounds, back_wall as back_wall_of, ball_met as ball_met_of, depth as depth_of, discriminant_of, least, near_side as near_side_of, plane_met as plane_met_of, ray_square, root as root_of};
 
 use crate::root::root;
 use crate::view::{View, dot};
@@ -126,13 +126,12 @@ fn wide_minus(a: i128, b: i128) -> i128
 
 /// The depth of the near side of the ball.
 fn near_side(squared: u64, along: i64, discriminant: i128) -> Option<u128>
-    requires { 1 ≤ squared }
+    requires some { 1 ≤ squared }
+    requires outside { pos 0 ≤ℤ discriminant → root_of (unsigned_abs discriminant) ≤ unsigned_abs along }
     ensures { option_to_list result ≡ near_side_of squared along discriminant }
 {
     if along > 0 && discriminant >= 0 {
-        let before = along
-            .unsigned_abs()
-            .saturating_sub(root(discriminant.unsigned_abs()));
+        let before = along.unsigned_abs() - root(discriminant.unsigned_abs());
         Some(u128::from(FOCAL) * u128::from(before) / u128::from(squared))
     } else {
         None
