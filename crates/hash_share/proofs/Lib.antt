@@ -1,0 +1,15 @@
+pub mod Chaining
+pub mod Entries
+pub mod Events
+pub mod Finding
+pub mod Hands
+pub mod Hops
+pub mod Moves
+pub mod Parts
+pub mod Places
+pub mod Refilled
+pub mod Refilling
+pub mod Roaming
+pub mod Seating
+pub mod Stacks
+pub mod Walking
