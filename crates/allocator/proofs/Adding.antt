@@ -1,5 +1,5 @@
 -- What touches add to what a seat has touched.
-use Rattle.std.proofs.Common.{◌≡◌, ℕ, zero, suc, get_or, slice_index_or, ◌+◌, ◌<◌, ◌≤◌, true, false, List, [], ◌∷◌, ◌++◌, length, refl, sym, ap, ◌∙◌, subst, arith, inl, inr, ◌⊎◌}
+use Rattle.std.proofs.Common.{◌≡◌, ℕ, zero, suc, get_or, slice_index_or, ◌+◌, ◌<◌, ◌≤◌, true, false, List, [], ◌∷◌, length, refl, sym, ap, ◌∙◌, subst, arith, inl, inr, ◌⊎◌}
 use Rattle.std.specs.Prelude.{pos, Some, None, Option, Contains, is_some, Result, Ok}
 use Rattle.std.proofs.lemmas.Bool.{cases_lt}
 use Rattle.voxel_block.specs.declared.key.BlockKey.{BlockKey}

@@ -1,16 +1,16 @@
 -- The table of a round whose share is closed.
-use Rattle.std.proofs.Common.{◌≡◌, ℕ, ◌+◌, ◌-◌, ◌^◌, ◌<◌, ◌≤◌, Bool, true, false, cond, not, ◌||◌, List, [], ◌∷◌, ◌++◌, length, map, refl, sym, ap, ◌∙◌, subst, arith, inl, inr, ◌⊎◌}
+use Rattle.std.proofs.Common.{◌≡◌, ℕ, ◌+◌, ◌-◌, ◌^◌, ◌≤◌, Bool, true, false, cond, not, ◌||◌, List, ◌++◌, length, refl, sym, ap, ◌∙◌, subst, arith, inl, inr, ◌⊎◌}
 use Rattle.std.proofs.Math.Bool.{or-true}
 use Rattle.std.specs.Prelude.{Some, None, Option, Contains, is_some}
 use Rattle.std.specs.Cmp.{eq_by_cmp_equiv}
-use Rattle.std.specs.List.{IsDistinct, list_any}
-use Rattle.std.specs.FinMap.{FinMap, contains_key, contains_key-keys, get, get-retain_keys, keys, len, len-entries, retain_keys}
+use Rattle.std.specs.List.{list_any}
+use Rattle.std.specs.FinMap.{contains_key, contains_key-keys, get, get-retain_keys, keys, len, len-entries, retain_keys}
 use Rattle.std.proofs.lemmas.List.{length-append, length-map}
 use Rattle.std.proofs.lemmas.List.Folds.{list_any-append}
 use Rattle.std.proofs.lemmas.Map.Made.{length-le_from_is_member}
 use Rattle.std.proofs.lemmas.Map.Views.{Contains-from_any, list_any-from_Contains}
 use Rattle.voxel_block.specs.declared.key.BlockKey.{BlockKey}
-use Rattle.voxel_block.specs.Keys.{key_cmp, same_key}
+use Rattle.voxel_block.specs.Keys.{same_key}
 use Rattle.voxel_block.specs.Words.{key_of, word_of}
 use Rattle.voxel_block.proofs.DistinctKeys.{distinct_keys}
 use Rattle.voxel_block.proofs.KeyLaws.{exact_keys, keys_total, same_key_is}
@@ -20,7 +20,7 @@ use Rattle.hash_share.specs.declared.view.View.{View}
 use Rattle.hash_share.specs.Seats.{IsNewKey}
 use Rattle.hash_share.specs.Steps.{HasPair}
 use Rattle.allocator.specs.Rounds.{Cells, HasNewKeys, KeepsCells, Touches}
-use Rattle.allocator.specs.Work.{HasTouched, TouchedAll, TouchedOnly}
+use Rattle.allocator.specs.Work.{TouchedAll, TouchedOnly}
 
 some_is : (a b : BlockKey) → Some a ≡ Some b → a ≡ b
 some_is a b e = cc

@@ -1,5 +1,5 @@
 -- Rows that are dealt out to workers, and workers put together.
-use Rattle.std.proofs.Common.{◌≡◌, ℕ, zero, suc, eqb, ◌+◌, ◌%◌, ◌<◌, ◌≤◌, Bool, true, false, List, ◌++◌, cond, refl, sym, ap, ◌∙◌, subst, arith, inl, inr, ◌⊎◌}
+use Rattle.std.proofs.Common.{◌≡◌, ℕ, eqb, ◌+◌, ◌%◌, ◌<◌, Bool, true, false, cond, refl, sym, ap, ◌∙◌, subst, arith, inl, inr, ◌⊎◌}
 use Rattle.std.specs.Prelude.{Some, None, Option, Contains}
 use Rattle.std.specs.Option.{option_or}
 use Rattle.std.proofs.lemmas.Bool.{cases_lt, eq-eqb, eqb-true, false≢true}
@@ -15,7 +15,7 @@ use Rattle.fusion_core.proofs.TouchPairs.{two}
 use Rattle.hash_share.specs.declared.view.View.{View}
 use Rattle.hash_share.specs.Seats.{Belongs, Share, Toucher}
 use Rattle.hash_share.specs.Steps.{HasPair, both}
-use Rattle.allocator.specs.Work.{HasTouched, HasWorked, IsDealt, IsSpentAt, IsWordIn, TouchedAll, TouchedOnly, TouchedRows}
+use Rattle.allocator.specs.Work.{HasTouched, HasWorked, IsDealt, IsSpentAt, TouchedAll, TouchedRows}
 
 -- ---- rows
 

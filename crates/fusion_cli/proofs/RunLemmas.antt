@@ -23,13 +23,10 @@ use Rattle.scan_lang.proofs.RecordLemmas.{further, records_step}
 use Rattle.fusion_core.specs.Fold.{State, start}
 use Rattle.session.specs.Fold.{after}
 use Rattle.session.specs.Output.{reply_text, replies_from, Output, output_of, output_from, all_bytes, first_bytes}
+use Rattle.fusion_cli.specs.UnderWay.{IsUnderWay, onward, output_after}
 use Rattle.fusion_cli.specs.Run.{Answers, CountsReads, CountsWrites, GivesEnd, IsRisen, IsRun, Told, ended, stop_of}
 
 -- ---- the outputs that are still possible
-
--- these replies, and then an output
-abbrev pub onward : List (List ℕ) → Output → Output
-onward done o = record { replies = done ++ o.replies; ending = o.ending }
 
 -- these replies, and no more, since the scan is refused
 abbrev stopped : List (List ℕ) → BadScan → Output
@@ -120,35 +117,23 @@ module _ (c : Config) where
   end_entry : (n offset : ℕ) (text : List ℕ) (r : Read) (more : List ℕ) → is_end r.entry ≡ true → entry_at n offset text ≡ Ok (r, more) → records_of n offset text ≡ record { entries = r.entry ∷ []; ending = complete }
   end_entry n offset text r more on h = records_step n offset text ∙ ap (records_from further) h ∙ rw on refl
 
-  -- ---- what stands in the middle of a run
+  -- ---- the run so far
 
-  -- the output of a text whose front was acted on, with these replies and this state, where left more lines may follow at an offset
-  abbrev pub output_after : List (List ℕ) → State → (left offset : ℕ) → List ℕ → Output
-  output_after done s n offset other = onward done (output_from c s (records_of n offset other))
-
-  -- the run so far
-  pub record Running (before now : Stream) (left offset : ℕ) (s : State) (sink grown : Told) : Type 0 where
-    pub done : List (List ℕ)
-    pub came : Came output_of (output_after done s left offset) before now
-    pub written : Appends sink.bytes grown.bytes (concat done)
-    pub grows : Grows sink.bytes grown.bytes
-    pub kept : grown.faults ≡ sink.faults
-
-  output_begun : (text rest : List ℕ) (b : Begun) → b.config ≡ c → begin_of text ≡ Ok (b, rest) → output_of text ≡ output_after [] start lines_after_config b.offset rest
+  output_begun : (text rest : List ℕ) (b : Begun) → b.config ≡ c → begin_of text ≡ Ok (b, rest) → output_of text ≡ output_after c [] start lines_after_config b.offset rest
   unfolding output_of scan_of
   output_begun text rest b is h = rw h (ap (λ (k : Config). output_from k start (records_of lines_after_config b.offset rest)) is)
 
   pub starts : {X : Type 0} (view : X → Begun) (x : X) (before now : Stream) (sink : Told) → (view x).config ≡ c → Reads scan_errors view begin_of before now (Ok x)
-      → Running before now lines_after_config (view x).offset start sink sink
+      → IsUnderWay c before now lines_after_config (view x).offset start sink sink
   starts view x before now sink is h = record {
     done = [];
-    came = came_through (output_after [] start lines_after_config (view x).offset) (came_none output_of before) h (λ t rest k. output_begun t rest (view x) is k);
+    came = came_through (output_after c [] start lines_after_config (view x).offset) (came_none output_of before) h (λ t rest k. output_begun t rest (view x) is k);
     written = Appends-nil sink.bytes;
     grows = grows_none sink.bytes;
     kept = refl;
   }
 
-  after_entry : (done : List (List ℕ)) (s : State) (n offset : ℕ) (r : Read) (text rest : List ℕ) → is_end r.entry ≡ false → entry_at n offset text ≡ Ok (r, rest) → output_after done s n offset text ≡ output_after (done ++ reply_text c s r.entry ∷ []) (after c s r.entry) r.left r.offset rest
+  after_entry : (done : List (List ℕ)) (s : State) (n offset : ℕ) (r : Read) (text rest : List ℕ) → is_end r.entry ≡ false → entry_at n offset text ≡ Ok (r, rest) → output_after c done s n offset text ≡ output_after c (done ++ reply_text c s r.entry ∷ []) (after c s r.entry) r.left r.offset rest
   after_entry done s n offset r text rest on h =
       ap (λ (rs : Records). onward done (output_from c s rs)) (one_entry n offset text r rest on h)
       ∙ ap (λ (ts : List (List ℕ)). record { replies = ts; ending = (records_of r.left r.offset rest).ending }) (sym (append_assoc done (reply_text c s r.entry ∷ []) (replies_from c (after c s r.entry) (records_of r.left r.offset rest).entries)))
@@ -157,11 +142,11 @@ module _ (c : Config) where
   one_more done reply = concat-append done (reply ∷ []) ∙ ap (λ (l : List ℕ). concat done ++ l) (append-nil reply)
 
   -- a reply was written
-  pub goes_further : {X : Type 0} (view : X → Read) (x : X) (before now new : Stream) (n offset : ℕ) (s : State) (sink mid grown : Told) → is_end (view x).entry ≡ false → Running before now n offset s sink mid → Reads scan_errors view (entry_at n offset) now new (Ok x)
-      → Appends mid.bytes grown.bytes (reply_text c s (view x).entry) → Grows mid.bytes grown.bytes → grown.faults ≡ mid.faults → Running before new (view x).left (view x).offset (after c s (view x).entry) sink grown
+  pub goes_further : {X : Type 0} (view : X → Read) (x : X) (before now new : Stream) (n offset : ℕ) (s : State) (sink mid grown : Told) → is_end (view x).entry ≡ false → IsUnderWay c before now n offset s sink mid → Reads scan_errors view (entry_at n offset) now new (Ok x)
+      → Appends mid.bytes grown.bytes (reply_text c s (view x).entry) → Grows mid.bytes grown.bytes → grown.faults ≡ mid.faults → IsUnderWay c before new (view x).left (view x).offset (after c s (view x).entry) sink grown
   goes_further view x before now new n offset s sink mid grown on run h more grows kept = record {
     done = run.done ++ reply_text c s (view x).entry ∷ [];
-    came = came_through (output_after (run.done ++ reply_text c s (view x).entry ∷ []) (after c s (view x).entry) (view x).left (view x).offset) run.came h (λ t rest is. after_entry run.done s n offset (view x) t rest on is);
+    came = came_through (output_after c (run.done ++ reply_text c s (view x).entry ∷ []) (after c s (view x).entry) (view x).left (view x).offset) run.came h (λ t rest is. after_entry run.done s n offset (view x) t rest on is);
     written = rw (one_more run.done (reply_text c s (view x).entry)) (Appends-trans sink.bytes mid.bytes grown.bytes (concat run.done) (reply_text c s (view x).entry) run.written more);
     grows = grows_more run.grows grows;
     kept = kept ∙ run.kept;
@@ -169,24 +154,24 @@ module _ (c : Config) where
 
   -- ---- its exits
 
-  first_replies : (done : List (List ℕ)) (s : State) (n offset : ℕ) (t : List ℕ) → (more : List (List ℕ)) × ((output_after done s n offset t).replies ≡ done ++ more)
+  first_replies : (done : List (List ℕ)) (s : State) (n offset : ℕ) (t : List ℕ) → (more : List (List ℕ)) × ((output_after c done s n offset t).replies ≡ done ++ more)
   first_replies done s n offset t = (replies_from c s (records_of n offset t).entries, refl)
 
-  no_more : (done : List (List ℕ)) (s : State) (n offset : ℕ) (text : List ℕ) (why : BadScan) → records_of n offset text ≡ record { entries = []; ending = refused why } → output_after done s n offset text ≡ stopped done why
+  no_more : (done : List (List ℕ)) (s : State) (n offset : ℕ) (text : List ℕ) (why : BadScan) → records_of n offset text ≡ record { entries = []; ending = refused why } → output_after c done s n offset text ≡ stopped done why
   no_more done s n offset text why is =
       ap (λ (rs : Records). onward done (output_from c s rs)) is ∙ ap (λ (ts : List (List ℕ)). record { replies = ts; ending = refused why }) (append-nil done)
 
-  entry_stops : (done : List (List ℕ)) (s : State) (n offset : ℕ) → StopsAfter done (entry_at n offset) (output_after done s n offset)
+  entry_stops : (done : List (List ℕ)) (s : State) (n offset : ℕ) → StopsAfter done (entry_at n offset) (output_after c done s n offset)
   entry_stops done s n offset = record {
     first = first_replies done s n offset;
     last = λ t why h. no_more done s n offset t why (no_entry n offset t why h);
   }
 
   -- the next entry can't be read
-  pub exit_entry : {X : Type 0} (view : X → Read) (e : ScanError) (before now new : Stream) (n offset : ℕ) (s : State) (sink grown : Told) → LosesFront new.come new.left → Running before now n offset s sink grown → Reads {X = X} scan_errors view (entry_at n offset) now new (Err e)
+  pub exit_entry : {X : Type 0} (view : X → Read) (e : ScanError) (before now new : Stream) (n offset : ℕ) (s : State) (sink grown : Told) → LosesFront new.come new.left → IsUnderWay c before now n offset s sink grown → Reads {X = X} scan_errors view (entry_at n offset) now new (Err e)
       → IsRun (start_of before) (source_of new) sink grown (ended (Err (stop_of e)))
   exit_entry view e before now new n offset s sink grown drop run h = record {
-    answer = exit_known view run.done (entry_at n offset) (output_after run.done s n offset) e before.given now.given new.given before.come now.come new.come new.left sink.bytes grown.bytes (entry_stops run.done s n offset) run.came.known h.known run.written;
+    answer = exit_known view run.done (entry_at n offset) (output_after c run.done s n offset) e before.given now.given new.given before.come now.come new.come new.left sink.bytes grown.bytes (entry_stops run.done s n offset) run.came.known h.known run.written;
     front = loses_more (loses_more run.came.front h.front) drop;
     grows = run.grows;
     reads = reads_counted e before.faults new.faults (counted_on before.faults now.faults new.faults (scan_cause e) run.came.faults h.faults);
@@ -194,9 +179,9 @@ module _ (c : Config) where
   }
 
   -- out of memory once an entry was read, or before the first
-  pub exit_memory : (before now : Stream) (left : Option (List ℕ)) (faults n offset : ℕ) (s : State) (sink grown : Told) → LosesFront now.come left → faults ≡ now.faults → Running before now n offset s sink grown → IsRun (start_of before) (record { bytes = left; faults = faults }) sink grown (ended (Err stops.NoMemory))
+  pub exit_memory : (before now : Stream) (left : Option (List ℕ)) (faults n offset : ℕ) (s : State) (sink grown : Told) → LosesFront now.come left → faults ≡ now.faults → IsUnderWay c before now n offset s sink grown → IsRun (start_of before) (record { bytes = left; faults = faults }) sink grown (ended (Err stops.NoMemory))
   exit_memory before now left faults n offset s sink grown drop kept run = record {
-    answer = memory_known run.done (output_after run.done s n offset) before.given now.given before.come now.come left sink.bytes grown.bytes run.came.known (first_replies run.done s n offset) run.written;
+    answer = memory_known run.done (output_after c run.done s n offset) before.given now.given before.come now.come left sink.bytes grown.bytes run.came.known (first_replies run.done s n offset) run.written;
     front = loses_more run.came.front drop;
     grows = run.grows;
     reads = kept ∙ run.came.faults;
@@ -204,17 +189,17 @@ module _ (c : Config) where
   }
 
   -- the output of a text whose next entry is known
-  entry_known : {X : Type 0} (view : X → Read) (x : X) (done : List (List ℕ)) (s : State) (n offset a b d : ℕ) (text : List ℕ) (now new left : Option (List ℕ)) → KnownCame output_of (output_after done s n offset) a b (Some text) now → KnownReads scan_errors view (entry_at n offset) b d now new left (Ok x)
-      → (rest more : List ℕ) × (output_of text ≡ output_after done s n offset rest) × (entry_at n offset rest ≡ Ok (view x, more))
+  entry_known : {X : Type 0} (view : X → Read) (x : X) (done : List (List ℕ)) (s : State) (n offset a b d : ℕ) (text : List ℕ) (now new left : Option (List ℕ)) → KnownCame output_of (output_after c done s n offset) a b (Some text) now → KnownReads scan_errors view (entry_at n offset) b d now new left (Ok x)
+      → (rest more : List ℕ) × (output_of text ≡ output_after c done s n offset rest) × (entry_at n offset rest ≡ Ok (view x, more))
   entry_known view x done s n offset a b d text None new left h k = absurd h
   entry_known view x done s n offset a b d text (Some rest) None left h k = absurd k
   entry_known view x done s n offset a b d text (Some rest) (Some more) left h k = (rest, more, ap output_of h.is ∙ h.again rest, ap (entry_at n offset) k.is ∙ k.again more)
 
-  end_output : (done : List (List ℕ)) (s : State) (n offset : ℕ) (rest : List ℕ) (r : Read) (more : List ℕ) → is_end r.entry ≡ true → entry_at n offset rest ≡ Ok (r, more) → output_after done s n offset rest ≡ record { replies = done ++ reply_text c s r.entry ∷ []; ending = complete }
+  end_output : (done : List (List ℕ)) (s : State) (n offset : ℕ) (rest : List ℕ) (r : Read) (more : List ℕ) → is_end r.entry ≡ true → entry_at n offset rest ≡ Ok (r, more) → output_after c done s n offset rest ≡ record { replies = done ++ reply_text c s r.entry ∷ []; ending = complete }
   end_output done s n offset rest r more on h = ap (λ (rs : Records). onward done (output_from c s rs)) (end_entry n offset rest r more on h)
 
   -- what was given, with the bytes that the feed keeps, has the end too
-  given_end : {X : Type 0} (view : X → Read) (x : X) (done : List (List ℕ)) (s : State) (n offset a b d : ℕ) (text kept : List ℕ) (now left : Option (List ℕ)) → is_end (view x).entry ≡ true → KnownCame output_of (output_after done s n offset) a b (Some text) now → KnownReads scan_errors view (entry_at n offset) b d now (prepend_known kept left) left (Ok x)
+  given_end : {X : Type 0} (view : X → Read) (x : X) (done : List (List ℕ)) (s : State) (n offset a b d : ℕ) (text kept : List ℕ) (now left : Option (List ℕ)) → is_end (view x).entry ≡ true → KnownCame output_of (output_after c done s n offset) a b (Some text) now → KnownReads scan_errors view (entry_at n offset) b d now (prepend_known kept left) left (Ok x)
       → GivesEnd text left
   given_end view x done s n offset a b d text kept None left on h k = absurd h
   given_end view x done s n offset a b d text kept (Some rest) None on h k = absurd k
@@ -224,7 +209,7 @@ module _ (c : Config) where
       let end : output_of (h.front ++ part) ≡ record { replies = done ++ reply_text c s (view x).entry ∷ []; ending = complete } = h.again part ∙ end_output done s n offset part (view x) kept on (k.again kept) in
       (h.front ++ part, h.is ∙ ap (λ (l : List ℕ). h.front ++ l) is ∙ sym (append_assoc h.front part more), ap (λ (o : Output). o.ending) end)
 
-  end_known : {X : Type 0} (view : X → Read) (x : X) (done : List (List ℕ)) (s : State) (n offset a b d : ℕ) (kept : List ℕ) (before now left old mid written : Option (List ℕ)) → is_end (view x).entry ≡ true → KnownCame output_of (output_after done s n offset) a b before now → KnownReads scan_errors view (entry_at n offset) b d now (prepend_known kept left) left (Ok x)
+  end_known : {X : Type 0} (view : X → Read) (x : X) (done : List (List ℕ)) (s : State) (n offset a b d : ℕ) (kept : List ℕ) (before now left old mid written : Option (List ℕ)) → is_end (view x).entry ≡ true → KnownCame output_of (output_after c done s n offset) a b before now → KnownReads scan_errors view (entry_at n offset) b d now (prepend_known kept left) left (Ok x)
       → Appends old mid (concat done) → Appends mid written (reply_text c s (view x).entry) → Answers before left old written (ended (Ok tt))
   end_known view x done s n offset a b d kept None now left old mid written on h k grown more = tt
   end_known view x done s n offset a b d kept (Some text) now left old mid written on h k grown more =
@@ -234,7 +219,7 @@ module _ (c : Config) where
       (given, ap (λ (o : Output). o.ending) is, rw (is, one_more done (reply_text c s (view x).entry)) (Appends-trans old mid written (concat done) (reply_text c s (view x).entry) grown more))
 
   -- the scan ends
-  pub exit_end : {X : Type 0} (view : X → Read) (x : X) (before now : Stream) (feed : Kept) (left : Option (List ℕ)) (faults : ℕ) (n offset : ℕ) (s : State) (sink mid grown : Told) → is_end (view x).entry ≡ true → Running before now n offset s sink mid → Reads scan_errors view (entry_at n offset) now (stream feed left faults) (Ok x)
+  pub exit_end : {X : Type 0} (view : X → Read) (x : X) (before now : Stream) (feed : Kept) (left : Option (List ℕ)) (faults : ℕ) (n offset : ℕ) (s : State) (sink mid grown : Told) → is_end (view x).entry ≡ true → IsUnderWay c before now n offset s sink mid → Reads scan_errors view (entry_at n offset) now (stream feed left faults) (Ok x)
       → Appends mid.bytes grown.bytes (reply_text c s (view x).entry) → Grows mid.bytes grown.bytes → grown.faults ≡ mid.faults → IsRun (start_of before) (record { bytes = left; faults = faults }) sink grown (ended (Ok tt))
   exit_end view x before now feed left faults n offset s sink mid grown on run h more grows kept = record {
     answer = end_known view x run.done s n offset before.given now.given feed.given feed.bytes before.come now.come left sink.bytes mid.bytes grown.bytes on run.came.known h.known run.written more;
@@ -258,7 +243,7 @@ module _ (c : Config) where
       let split : b ++ d ≡ take k b ++ (drop k b ++ d) = sym (ap (λ (l : List ℕ). l ++ d) (take-append-drop k b)) ∙ append_assoc (take k b) (drop k b) d in
       take-append-add a (b ++ d) (length (take k b)) ∙ ap (λ (l : List ℕ). a ++ l) (ap (take (length (take k b))) split ∙ take_at (take k b) (drop k b ++ d) (length (take k b)) refl)
 
-  write_known : {X : Type 0} (view : X → Read) (x : X) (done : List (List ℕ)) (s : State) (n offset k a b d : ℕ) (before now new left old mid written : Option (List ℕ)) → KnownCame output_of (output_after done s n offset) a b before now → KnownReads scan_errors view (entry_at n offset) b d now new left (Ok x)
+  write_known : {X : Type 0} (view : X → Read) (x : X) (done : List (List ℕ)) (s : State) (n offset k a b d : ℕ) (before now new left old mid written : Option (List ℕ)) → KnownCame output_of (output_after c done s n offset) a b before now → KnownReads scan_errors view (entry_at n offset) b d now new left (Ok x)
       → Appends old mid (concat done) → Appends mid written (take k (reply_text c s (view x).entry)) → Answers before left old written (ended (Err stops.WriteFault))
   write_known view x done s n offset k a b d None now new left old mid written h r grown more = tt
   write_known view x done s n offset k a b d (Some text) now new left old mid written h r grown more =
@@ -269,7 +254,7 @@ module _ (c : Config) where
       (length (concat done) + length (take k bytes_of), rw (bytes, front_of (concat done) bytes_of (concat first.0) k) (Appends-trans old mid written (concat done) (take k bytes_of) grown more))
 
   -- the sink failed
-  pub exit_write : {X : Type 0} (view : X → Read) (x : X) (before now new : Stream) (n offset : ℕ) (s : State) (sink mid grown : Told) (k : ℕ) → LosesFront new.come new.left → Running before now n offset s sink mid → Reads scan_errors view (entry_at n offset) now new (Ok x)
+  pub exit_write : {X : Type 0} (view : X → Read) (x : X) (before now new : Stream) (n offset : ℕ) (s : State) (sink mid grown : Told) (k : ℕ) → LosesFront new.come new.left → IsUnderWay c before now n offset s sink mid → Reads scan_errors view (entry_at n offset) now new (Ok x)
       → Appends mid.bytes grown.bytes (take k (reply_text c s (view x).entry)) → Grows mid.bytes grown.bytes → IsRisen mid.faults grown.faults → IsRun (start_of before) (source_of new) sink grown (ended (Err stops.WriteFault))
   exit_write view x before now new n offset s sink mid grown k drop run h more grows rose = record {
     answer = write_known view x run.done s n offset k before.given now.given new.given before.come now.come new.come new.left sink.bytes mid.bytes grown.bytes run.came.known h.known run.written more;

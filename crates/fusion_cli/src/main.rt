@@ -17,6 +17,6 @@ fn main(rt: HostRuntime) -> ExitCode {
     let mut sink = StdSink::make(io::writer(&rt));
     let mut errors = StdSink::make(rt.stderr());
     let args = env::args(&rt);
-    let exit = run_program(rt.alloc(), args, &mut source, &mut sink, &mut errors);
+    let exit = run_program(&rt, rt.alloc(), args, &mut source, &mut sink, &mut errors);
     ExitCode::from(exit.code)
 }

@@ -11,10 +11,12 @@ ghost use Rattle.command_words.specs.declared.words.Command.{Command};
 
 use crate::run::run_fusion;
 use crate::status::Status;
+use fusion_core::NoGate;
 use scan_io::{Sink, Source, put_all};
 use std::alloc::{AllocError, Global};
 use std::env::Args;
 use std::io::{self, ErrorKind};
+use std::thread::Threads;
 use voxel_block::NoMemory;
 
 /// How the program ended, and its exit status.
@@ -30,7 +32,8 @@ pub struct Exit {
 /// status other than `Done` to `errors`.
 ///
 /// `args` are the arguments as the system gives them, the program's name first.
-pub fn run_program<S: Source, K: Sink, E: Sink>(
+pub fn run_program<R: Threads + Sync, S: Source, K: Sink, E: Sink>(
+    rt: &R,
     alloc: Global,
     args: io::Result<Args>,
     source: &mut S,
@@ -57,7 +60,7 @@ pub fn run_program<S: Source, K: Sink, E: Sink>(
         → (result.status ≡ Status.NoMemory) ⊎ IsWhole (text_for command (S.left source.old)) (K.written sink.old) (K.written sink.new) result.status }
 {
     let status = match words(alloc, args) {
-        Ok(words) => run_fusion(alloc, &words, source, sink),
+        Ok(words) => run_fusion(rt, alloc, &words, source, sink, &NoGate),
         Err(status) => status,
     };
     report(alloc, &status, errors);

@@ -2,19 +2,24 @@ ghost use Rattle.std.specs.Prelude.{◌≡◌, ◌⊎◌, ◌≤◌, Some, None,
 ghost use Rattle.std.specs.Io.KnownBytes.{Appends};
 ghost use Rattle.scan_io.specs.Causes.{Rose, HasCause};
 ghost use Rattle.scan_io.specs.Coming.{Grows, LosesFront};
+ghost use Rattle.scan_io.specs.Reading.{Stream, stream};
+ghost use Rattle.session.specs.Answers.{state_of};
 ghost use Rattle.scan_gen.specs.Generated.{generated_scan};
-ghost use Rattle.fusion_cli.specs.Run.{Answered, CountsReads, CountsWrites, IsDemo, IsRun, IsWhole, ended, reads_source, stop_of, text_for, told};
+ghost use Rattle.fusion_cli.specs.Run.{Answered, CountsReads, CountsWrites, IsDemo, IsRun, IsWhole, Told, ended, reads_source, stop_of, text_for, told};
+ghost use Rattle.fusion_cli.specs.UnderWay.{IsUnderWay};
 ghost use Rattle.command_words.specs.Words.{command_of};
 ghost use Rattle.command_words.specs.declared.words.Command.{Command as Words};
 ghost use Rattle.fusion_cli.specs.declared.run.Stop.TheVariants.{NoMemory as no_memory};
 
 use crate::status::Status;
 use command_words::{Command, WordError, read_words};
+use fusion_core::Gate;
 use scan_gen::GenSource;
 use scan_io::{Sink, Source, put_all};
 use scan_lang::{BadScan, ScanError, ScanReader, reply_bytes};
 use session::Session;
 use std::alloc::Global;
+use std::thread::Threads;
 use voxel_block::NoMemory;
 
 /// The greatest number of lines of a scan; each record has one of its own.
@@ -65,11 +70,16 @@ impl From<ScanError> for Stop {
 /// reply to each to the sink before it acts on the next. `demo` does the same with a generated scan, and leaves the source
 /// as it is. Words that are no command are answered with `Usage`, or it is out of memory; nothing is read then, and nothing
 /// is written.
-pub fn run_fusion<S: Source, K: Sink>(
+///
+/// The words say how many workers there are. Each passes the gate before each piece of its work. What is answered and
+/// written does not depend on their number.
+pub fn run_fusion<R: Threads + Sync, S: Source, K: Sink, G: Gate>(
+    rt: &R,
     alloc: Global,
     words: &[String],
     source: &mut S,
     sink: &mut K,
+    gate: &G,
 ) -> Status
     // What is written, and the status that says why it ends there.
     ensures answer { Answered (command_of (map string_bytes words.now)) (S.left source.old) (S.left source.new) (K.written sink.old) (K.written sink.new) result }
@@ -92,8 +102,14 @@ pub fn run_fusion<S: Source, K: Sink>(
         → (result ≡ Status.NoMemory) ⊎ IsWhole (text_for command (S.left source.old)) (K.written sink.old) (K.written sink.new) result }
 {
     match read_words(alloc, words) {
-        Ok(Command::Fuse { .. }) => status_of(run_scan(alloc, source, sink)),
-        Ok(Command::Demo { seed, frames, .. }) => status_of(run_demo(alloc, seed, frames, sink)),
+        Ok(Command::Fuse { workers, .. }) => {
+            status_of(run_scan(rt, alloc, source, sink, workers, gate))
+        }
+        Ok(Command::Demo {
+            seed,
+            frames,
+            workers,
+        }) => status_of(run_demo(rt, alloc, seed, frames, sink, workers, gate)),
         Err(WordError::Usage) => Status::Usage,
         Err(WordError::NoMemory) => Status::NoMemory,
     }
@@ -113,26 +129,64 @@ fn status_of(run: Result<(), Stop>) -> Status
 }
 
 /// Acts on the records of a generated scan in order, and writes the reply to each.
-fn run_demo<K: Sink>(alloc: Global, seed: u32, frames: u32, sink: &mut K) -> Result<(), Stop>
+fn run_demo<R: Threads + Sync, K: Sink, G: Gate>(
+    rt: &R,
+    alloc: Global,
+    seed: u32,
+    frames: u32,
+    sink: &mut K,
+    workers: u32,
+    gate: &G,
+) -> Result<(), Stop>
     requires least { 1 ≤ frames }
     requires most { frames ≤ 1000 }
+    requires workers { (1 ≤ workers) × (workers ≤ 64) }
     ensures { IsDemo (generated_scan seed frames) (told (K.written sink.old) (K.faults sink.old)) (told (K.written sink.new) (K.faults sink.new)) (ended result) }
 {
     let mut source = GenSource::make(alloc, seed, frames)?;
-    run_scan(alloc, &mut source, sink)
+    run_scan(rt, alloc, &mut source, sink, workers, gate)
 }
 
 /// Acts on the records of a scan in order, and writes the reply to each.
-fn run_scan<S: Source, K: Sink>(alloc: Global, source: &mut S, sink: &mut K) -> Result<(), Stop>
+fn run_scan<R: Threads + Sync, S: Source, K: Sink, G: Gate>(
+    rt: &R,
+    alloc: Global,
+    source: &mut S,
+    sink: &mut K,
+    workers: u32,
+    gate: &G,
+) -> Result<(), Stop>
+    requires workers { (1 ≤ workers) × (workers ≤ 64) }
     ensures { IsRun (told (S.left source.old) (S.faults source.old)) (told (S.left source.new) (S.faults source.new))
         (told (K.written sink.old) (K.faults sink.old)) (told (K.written sink.new) (K.faults sink.new)) (ended result) }
 {
     let (config, mut reader) = ScanReader::begin(alloc, source)?;
     let mut session = Session::start(alloc, config)?;
+    answer_all(rt, alloc, &mut session, &mut reader, source, sink, workers, gate)
+}
+
+/// Acts on the records that are left of a scan in order, and writes the reply to each.
+fn answer_all<R: Threads + Sync, S: Source, K: Sink, G: Gate>(
+    rt: &R,
+    alloc: Global,
+    session: &mut Session,
+    reader: &mut ScanReader,
+    source: &mut S,
+    sink: &mut K,
+    workers: u32,
+    gate: &G,
+) -> Result<(), Stop>
+    requires lines { reader.old.left ≤ 999999 }
+    requires workers { (1 ≤ workers) × (workers ≤ 64) }
+    // Whatever the run that is under way has read and written.
+    ensures { (before : Stream) (empty : Told)
+        → IsUnderWay session.old.config before (stream reader.old.kept (S.left source.old) (S.faults source.old)) reader.old.left reader.old.kept.given (state_of session.old) empty (told (K.written sink.old) (K.faults sink.old))
+        → IsRun (told before.come before.faults) (told (S.left source.new) (S.faults source.new)) empty (told (K.written sink.new) (K.faults sink.new)) (ended result) }
+{
     for _ in 0..RECORDS_LIMIT {
         let entry = reader.next(alloc, source)?;
         let is_end = entry.is_end();
-        let reply = session.answer(alloc, entry)?;
+        let reply = session.answer(rt, alloc, entry, workers, gate)?;
         let bytes = reply_bytes(alloc, &reply)?;
         put_reply(sink, &bytes)?;
         if is_end {

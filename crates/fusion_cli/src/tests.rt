@@ -1,14 +1,17 @@
 use crate::run::run_fusion;
 use crate::status::Status;
+use fusion_core::NoGate;
 use scan_io::{MemSink, MemSource};
 use scan_lang::{BadScan, BadWhat};
 use std::alloc::Global;
 use std::test::Fail;
+use std::thread::Threads;
 
 mod ends;
 mod maps;
 mod program;
 mod scans;
+mod workers;
 
 const BASE: &str =
     "{\"version\":1,\"width\":1,\"height\":1,\"fx\":65536,\"fy\":65536,\"cx\":0,\"cy\":0,\"unit\":1000,\"near\":500000,\"far\":2000000,\"voxel\":10000,\"mu\":40000,\"max_weight\":255,\"radius\":2100000,\"centre\":1020000,\"heap_blocks\":64,\"buckets\":16,\"empty_f\":30000}\n";
@@ -68,7 +71,8 @@ fn words_of(alloc: Global, line: &str) -> Result<Vec<String>, Fail> {
 }
 
 // Runs over a text that comes in pieces, with the calls of the source and of the sink that fail.
-fn run_on(
+fn run_on<R: Threads + Sync>(
+    rt: &R,
     alloc: Global,
     text: Vec<u8>,
     piece: usize,
@@ -78,7 +82,7 @@ fn run_on(
     let words = words_of(alloc, "fuse")?;
     let mut source = MemSource::make(text, piece.max(1), read_fails);
     let mut sink = MemSink::make(alloc, 1 << 20, 4096, write_fails)?;
-    let status = run_fusion(alloc, &words, &mut source, &mut sink);
+    let status = run_fusion(rt, alloc, &words, &mut source, &mut sink, &NoGate);
     Ok((status, sink))
 }
 

@@ -199,11 +199,11 @@ fn words_of(alloc: Global, table: &HashTable) -> Result<Vec<u64>, AllocError>
 {
     let (buckets, nodes) = sizes_of(table);
     let count = 5 * buckets + 2 * nodes;
-    let mut words = Vec::new(alloc);
+    let mut words = Vec::with_capacity(alloc, count as usize + 1)?;
     for w in 0..count {
-        words.push(table.word_at(w))?;
+        words.push_reserved(table.word_at(w));
     }
-    words.push(u64::from(table.linked()))?;
+    words.push_reserved(u64::from(table.linked()));
     Ok(words)
 }
 
@@ -213,9 +213,9 @@ fn cells_of(alloc: Global, table: &HashTable) -> Result<Vec<u32>, AllocError>
 {
     let (buckets, nodes) = sizes_of(table);
     let count = 4 * buckets + nodes;
-    let mut cells = Vec::new(alloc);
+    let mut cells = Vec::with_capacity(alloc, count as usize)?;
     for e in 0..count {
-        cells.push(cell_of(table, e))?;
+        cells.push_reserved(cell_of(table, e));
     }
     Ok(cells)
 }

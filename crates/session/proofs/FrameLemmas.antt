@@ -1,6 +1,6 @@
 -- What a session answers to a frame, one lemma for each way that it ends.
 use Rattle.std.proofs.Common.{◌≡◌, ℕ, ◌+◌, true, false, sym, ap, ◌∙◌}
-use Rattle.std.specs.Prelude.{Some, Result, Ok, Err}
+use Rattle.std.specs.Prelude.{Some, Result, Ok, Err, OnErr}
 use Rattle.std.specs.List.{fold}
 use Rattle.std.specs.FinMap.{len}
 use Rattle.fixed_geom.specs.PoseTest.{accepted, pose_of}
@@ -79,3 +79,8 @@ module _ (c : Config) (s : State) (rows : PoseRows) (depths : DepthMap) where
 -- the state after the blocks of the band were touched and every block was updated
 pub fused_is : (s : State) (f : Frame) (m : BlockMap) → m ≡ fold touched s.blocks (band (view f)) → record { blocks = all_updated f m; frames = saturated (s.frames + 1); last = Some f.pose } ≡ fused s f
 fused_is s f m e = ap (λ (b : BlockMap). record { blocks = b; frames = saturated (s.frames + 1); last = Some f.pose }) (ap (all_updated f) e ∙ fuse_is f s.blocks)
+
+-- what holds of an error, whatever the result
+pub on_err : {T E : Type 0} (P : Type 0) (r : Result T E) → P → OnErr r P
+on_err P (Ok x) p = tt
+on_err P (Err e) p = p

@@ -10,5 +10,4 @@ mod Powers
 mod RoomLemmas
 mod StandingLemmas
 mod SumLemmas
-mod TouchedKeys
 mod UpdatingLemmas

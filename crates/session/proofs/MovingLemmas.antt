@@ -15,7 +15,8 @@ use Rattle.spatial_hash.specs.Table.{KeepsSize, Table}
 use Rattle.streamer.specs.Places.{IsPlaced, Places, blocks_of}
 use Rattle.streamer.proofs.Blocks.{has-blocks}
 use Rattle.fusion_core.specs.Maps.{BlockMap, touched}
-use Rattle.session.specs.Rooms.{Cells, Moves}
+use Rattle.allocator.specs.Rounds.{Cells}
+use Rattle.session.specs.Rooms.{Moves}
 
 abbrev pub any : BlockKey → List BlockKey → Bool
 any q ks = list_any (same_key q) ks

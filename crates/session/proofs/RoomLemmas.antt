@@ -1,5 +1,5 @@
 -- The room that a frame needs: by the table of touched keys, and by the plan.
-use Rattle.std.proofs.Common.{◌≡◌, ℕ, suc, get_or, ◌+◌, ◌*◌, ◌<◌, ◌≤◌, Bool, true, false, ◌&&◌, ◌||◌, not, cond, List, [], ◌∷◌, ◌++◌, map, length, fold, refl, sym, ap, subst, ◌∙◌, arith}
+use Rattle.std.proofs.Common.{◌≡◌, ℕ, suc, get_or, ◌+◌, ◌-◌, ◌*◌, ◌<◌, ◌≤◌, Bool, true, false, ◌&&◌, ◌||◌, not, cond, List, [], ◌∷◌, ◌++◌, map, length, fold, refl, sym, ap, subst, ◌∙◌, arith}
 use Rattle.std.proofs.Math.Bool.{and-false, or-true}
 use Rattle.std.specs.Prelude.{is_some}
 use Rattle.std.specs.Cmp.{eq_by_cmp_equiv}
@@ -40,7 +40,8 @@ use Rattle.fusion_core.specs.Frames.{Frame, IsFrame, is_active, view}
 use Rattle.fusion_core.specs.Maps.{BlockMap, need, touched}
 use Rattle.fusion_core.proofs.FuseLemmas.{need_is}
 use Rattle.fusion_core.proofs.TouchLemmas.{has_all}
-use Rattle.session.specs.Rooms.{Cells, IsFramePlan, IsReady, IsSpent, StaysPut, Touches}
+use Rattle.allocator.specs.Rounds.{Cells, HasNewKeys, Touches}
+use Rattle.session.specs.Rooms.{IsFramePlan, IsReady, StaysPut}
 use Rattle.session.proofs.CountLemmas.{count_by-cons, count_keys}
 use Rattle.session.proofs.StandingLemmas.{resident_known}
 
@@ -69,14 +70,6 @@ both_of true true e = (refl, refl)
 both_of true false e = absurd (cc)
 both_of false b e = absurd (cc)
 
-one_of : (a b : Bool) → (a || b) ≡ true → b ≡ false → a ≡ true
-one_of true b e f = refl
-one_of false b e f = absurd (let z : true ≡ false = sym e ∙ f in cc)
-
-not_both : (a : Bool) → a ≡ true → not a ≡ true → ⊥
-not_both true e f = (let z : false ≡ true = f in cc)
-not_both false e f = (let z : false ≡ true = e in cc)
-
 pub false_of : (a : Bool) → not a ≡ true → a ≡ false
 false_of true e = absurd (cc)
 false_of false e = refl
@@ -87,42 +80,24 @@ module _ (f : Frame) (frame : IsFrame f) where
   pub band_active : (q : BlockKey) → any q (band (view f)) ≡ true → is_active f q ≡ true
   band_active q banded = (band_block_is_active (view f) q frame.shown (from_band (view f) q (Contains-from_any same_key_is q (band (view f)) banded))).0
 
-  -- ---- a table that is full
+  -- ---- a table without a node for a new key
 
-  module _ (m : BlockMap) (h : Cells) (known : (q : BlockKey) → contains_key h q ≡ true → contains_key m q ≡ true) (nodes : ℕ) (s : IsSpent h (band (view f)) nodes) where
-    inactive_few : length (filter (λ q. not (is_active f q)) (keys s.keys)) ≤ length (keys h)
-    inactive_few = fewer (λ _. true) (filter (λ q. not (is_active f q)) (keys s.keys)) (keys h) (filter_once (λ q. not (is_active f q)) s.keys) (λ q e.
-        let b = both_of (any q (keys s.keys)) (not (is_active f q)) (sym (any_filter (λ q. not (is_active f q)) (keys s.keys) q) ∙ e) in
-        let inside = s.among q (contains_key-keys s.keys q ∙ b.0) in
-        sym (contains_key-keys h q) ∙ by q (any q (band (view f))) refl inside b.1)
-      where
-        by : (q : BlockKey) (t : Bool) → any q (band (view f)) ≡ t → (contains_key h q || any q (band (view f))) ≡ true → not (is_active f q) ≡ true → contains_key h q ≡ true
-        by q true e inside out = absurd (not_both (is_active f q) (band_active q e) out)
-        by q false e inside out = one_of (contains_key h q) (any q (band (view f))) inside e
-
-    active_few : length (filter (is_active f) (keys s.keys)) ≤ length (filter (is_active f) (keys (fold touched m (band (view f)))))
-    active_few = fewer (λ _. true) _ _ (filter_once (is_active f) s.keys) (λ q e.
-        let b = both_of (any q (keys s.keys)) (is_active f q) (sym (any_filter (is_active f) (keys s.keys) q) ∙ e) in
-        let inside = s.among q (contains_key-keys s.keys q ∙ b.0) in
+  module _ (m : BlockMap) (h : Cells) (n : ℕ) (s : HasNewKeys h (band (view f)) n) where
+    new_few : length (keys s.keys) ≤ length (filter (is_active f) (keys (fold touched m (band (view f)))))
+    new_few = fewer (λ _. true) (keys s.keys) (filter (is_active f) (keys (fold touched m (band (view f))))) (distinct_keys s.keys) (λ q e.
+        let banded = (s.new q (contains_key-keys s.keys q ∙ e)).1 in
         any_filter (is_active f) (keys (fold touched m (band (view f)))) q
-        ∙ (λ i. (sym (contains_key-keys (fold touched m (band (view f))) q) ∙ has_all m (band (view f)) q ∙ more (contains_key h q) (contains_key m q) (any q (band (view f))) (known q) inside) i && b.1 i))
-      where
-        more : (a b c : Bool) → (a ≡ true → b ≡ true) → (a || c) ≡ true → (b || c) ≡ true
-        more true b c k e = ap (λ x. x || c) (k refl)
-        more false b c k e = ap (λ x. b || x) e ∙ or-true b
+        ∙ (λ i. (sym (contains_key-keys (fold touched m (band (view f))) q) ∙ has_all m (band (view f)) q ∙ ap (λ x. contains_key m q || x) banded ∙ or-true (contains_key m q)) i && band_active q banded i))
 
-    -- more blocks would be active than half of the nodes and fewer
-    pub spent_need : (cells : ℕ) → len h ≤ cells → nodes ≡ 2 * cells + 65 → cells < need m f
-    spent_need cells few is =
-        let parts = length-filter_both (is_active f) (λ q. not (is_active f q)) (λ _. refl) (keys s.keys) in
+    -- more blocks would be active than there are cells: the new keys alone are more
+    pub spent_need : (cells nodes linked workers : ℕ) → len h ≤ cells → nodes ≡ 2 * cells + 65 → linked ≤ len h → workers ≤ 64 → n ≡ nodes - linked - workers → cells < need m f
+    spent_need cells nodes linked workers few size held crew left =
         let all = count_keys s.keys in
-        let held = count_keys h in
-        let out = inactive_few in
-        let on = active_few in
+        let on = new_few in
         let counted = length-filter (is_active f) (keys (fold touched m (band (view f)))) in
         let needed : count_by (is_active f) (keys (fold touched m (band (view f)))) ≡ need m f = need_is f m in
         let many = s.many in
-        omega (arith, parts, all, held, out, on, counted, needed, many, few, is)
+        omega (arith, all, on, counted, needed, many, few, size, held, crew, left)
 
 -- ---- lists of keys
 

@@ -1,40 +1,19 @@
--- Room for a frame: the touched keys, and what is made ready before the first block moves.
-use Rattle.std.specs.Prelude.{◌≡◌, ◌≤◌, ◌+◌, ◌&&◌, ◌||◌, ℕ, not, IsTrue, List, length}
-use Rattle.std.specs.FinMap.{FinMap, contains_key, len}
+-- Room for a frame: what is made ready before the first block moves.
+use Rattle.std.specs.Prelude.{◌≡◌, ◌≤◌, ◌+◌, ◌&&◌, not, IsTrue, length}
+use Rattle.std.specs.FinMap.{contains_key, len}
 use Rattle.std.specs.FinSet.{contains}
 use Rattle.std.specs.List.{IsDistinct, list_any}
 use Rattle.voxel_block.specs.declared.key.BlockKey.{BlockKey}
 use Rattle.voxel_block.specs.Chunks.{chunk_of}
-use Rattle.voxel_block.specs.Keys.{key_cmp, same_key}
+use Rattle.voxel_block.specs.Keys.{same_key}
 use Rattle.spatial_hash.specs.Contents.{contents}
 use Rattle.spatial_hash.specs.Table.{KeepsSize}
 use Rattle.band_walk.specs.Bands.{band}
-use Rattle.band_walk.specs.Memos.{IsNoted}
 use Rattle.streamer.specs.Places.{IsPlaced, Places, blocks_of}
 use Rattle.streamer.specs.Plans.{entering, leaving, staying}
 use Rattle.streamer.specs.declared.plan.Plan.{Plan}
 use Rattle.fusion_core.specs.Frames.{Frame, view}
 use Rattle.session.specs.declared.room.Ready.{Ready}
-
--- ---- touched keys
-
--- the cells by their keys, of which contracts read the keys alone
-abbrev pub Cells : Type 0
-Cells = FinMap key_cmp ℕ
-
--- a table has the keys of another and those of a list
-abbrev pub Touches : Cells → List BlockKey → Cells → Type 0
-Touches h ks t = (b : BlockKey) → contains_key t b ≡ (contains_key h b || list_any (same_key b) ks)
-
--- each key that is noted in a memo is a key of a table
-pub record HasNoted (memo : List ℕ) (t : Cells) : Type 0 where
-  pub touched : (b : BlockKey) → IsNoted memo b → IsTrue (contains_key t b)
-
--- keys of a table and of a list that number at least as many as the nodes
-pub record IsSpent (h : Cells) (ks : List BlockKey) (nodes : ℕ) : Type 0 where
-  pub keys : Cells
-  pub many : nodes ≤ len keys
-  pub among : (b : BlockKey) → IsTrue (contains_key keys b) → IsTrue (contains_key h b || list_any (same_key b) ks)
 
 -- ---- a frame's plan
 

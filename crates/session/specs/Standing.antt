@@ -30,10 +30,8 @@ pub record HasSizeOf (c : Config) (t : Table) : Type 0 where
   pub buckets : t.buckets ≡ c.buckets
   pub nodes : t.nodes ≡ 2 * c.heap_blocks + 65
 
--- what a frame works with is made for a configuration: the table of touched keys has the size of the hash, and the slopes are
--- those of the camera's pixels
+-- what a frame works with is made for a configuration: the slopes are those of the camera's pixels
 pub record IsScratchOf (c : Config) (s : Scratch) : Type 0 where
-  pub touched : HasSizeOf c s.touched
   pub slopes : s.slopes.fields ≡ c.camera
 
 -- what holds of a session between its calls

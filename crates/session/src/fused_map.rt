@@ -25,10 +25,11 @@ use crate::totals::totals;
 use crossing_export::Crossing;
 use depth_frame::DepthFrame;
 use fixed_geom::{BadPose, Pose, PoseRows};
-use fusion_core::{Frame, Settings};
+use fusion_core::{Frame, Gate, Settings};
 use raycaster::render;
 use scan_lang::{Config, FrameDone, KnownVoxel, Place, Totals};
 use std::alloc::Global;
+use std::thread::Threads;
 use streamer::Rest;
 use voxel_block::{BlockKey, NoMemory};
 
@@ -69,16 +70,22 @@ pub fn first_map(alloc: Global, config: &Config) -> Result<(FusedMap, Scratch), 
 
 /// Fuses a frame into the map. It is refused where its sides are not the configuration's, then where its rows are no
 /// pose, then where more blocks of the map and of its band would be active for it than the configuration allows.
-pub fn fuse_frame(
+///
+/// The band is touched by `workers` workers, each of which passes the gate before each of its rows.
+pub fn fuse_frame<R: Threads + Sync, G: Gate>(
+    rt: &R,
     alloc: Global,
     config: &Config,
     map: &mut FusedMap,
     scratch: &mut Scratch,
     rows: &PoseRows,
     depths: DepthFrame,
+    workers: u32,
+    gate: &G,
 ) -> Result<FrameDone, FrameError>
     requires settled { IsSettled (session_of config.now map.old) }
     requires scratch { IsScratchOf config.now scratch.old }
+    requires workers { (1 ≤ workers) × (workers ≤ 64) }
     ensures answer { UnlessOutOfMemory frame_cause (λ done. done) result (frame_answer config.now (state_of (session_of config.now map.old)) rows.now depths) }
     ensures state { OnOk result (state_of (session_of config.now map.new) ≡ after config.now (state_of (session_of config.now map.old)) (entries.Frame rows.now depths)) }
     ensures stands { Stands (session_of config.now map.new) }
@@ -93,7 +100,17 @@ pub fn fuse_frame(
     ensures pose { has_size config.now.camera depths ≡ true → (why : BadPose) → accepted (pose_of rows.now) ≡ Err why → result ≡ Err (FrameError.BadPose why) }
 {
     let frame = Frame::offered(&settings(config), rows, depths)?;
-    let ready = make_room(alloc, &mut map.rest, scratch, &frame, config.heap_blocks())?;
+    let limit = config.heap_blocks();
+    let ready = make_room(
+        rt,
+        alloc,
+        &mut map.rest,
+        scratch,
+        &frame,
+        limit,
+        workers,
+        gate,
+    )?;
     let resident = ready.plan.need as u32;
     fuse(&mut map.rest, &frame, &scratch.depths, ready);
     map.frames = map.frames.saturating_add(1);

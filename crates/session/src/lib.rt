@@ -12,7 +12,6 @@ mod room;
 mod scratch;
 mod session;
 mod totals;
-mod touching;
 mod updating;
 
 pub use error::{FrameError, ReadError, RenderError};

@@ -1,4 +1,4 @@
-ghost use Rattle.std.specs.Prelude.{◌≡◌, ◌≢◌, ◌↔◌, ◌+◌, ◌*◌, Err, Some, None, IfOk, IsOk, OnErr, OnOk, true, false};
+ghost use Rattle.std.specs.Prelude.{◌≡◌, ◌≢◌, ◌↔◌, ◌≤◌, ◌+◌, ◌*◌, Err, Some, None, IfOk, IsOk, OnErr, OnOk, true, false};
 ghost use Rattle.std.specs.FinMap.{empty, len};
 ghost use Rattle.std.specs.FinSet.{empty as no_chunks};
 ghost use Rattle.fixed_geom.specs.PoseTest.{accepted, pose_of};
@@ -22,9 +22,11 @@ use crate::scratch::Scratch;
 use crossing_export::Crossing;
 use depth_frame::DepthFrame;
 use fixed_geom::{BadPose, PoseRows};
+use fusion_core::Gate;
 use scan_lang::{Config, FrameDone, KnownVoxel, Place, Totals};
 use std::alloc::Global;
 use std::marker::Model;
+use std::thread::Threads;
 use voxel_block::{BlockKey, NoMemory};
 
 mod answer;
@@ -72,13 +74,20 @@ impl Session {
     /// Fuses a frame into the map. It is refused where its sides are not the configuration's, then where its rows are
     /// no pose, then where more blocks of the map and of its band would be active for it than the configuration allows.
     ///
+    /// The blocks of its band are found by `workers` workers at once, from 1 to 64, each of which passes the gate before
+    /// each row of pixels that it takes. What is answered and what the map is then does not depend on their number.
+    ///
     /// A refused frame changes nothing. Out of memory no block has moved, but chunks of the store may have been opened.
-    pub fn frame(
+    pub fn frame<R: Threads + Sync, G: Gate>(
         &mut self,
+        rt: &R,
         alloc: Global,
         rows: &PoseRows,
         depths: DepthFrame,
+        workers: u32,
+        gate: &G,
     ) -> Result<FrameDone, FrameError>
+        requires workers { (1 ≤ workers) × (workers ≤ 64) }
         ensures answer { UnlessOutOfMemory frame_cause (λ done. done) result (frame_answer self.old.config (state_of self.old) rows.now depths) }
         ensures state { OnOk result (state_of self.new ≡ after self.old.config (state_of self.old) (entries.Frame rows.now depths)) }
         ensures config { self.new.config ≡ self.old.config }
@@ -92,12 +101,15 @@ impl Session {
         ensures pose { has_size self.old.config.camera depths ≡ true → (why : BadPose) → accepted (pose_of rows.now) ≡ Err why → result ≡ Err (FrameError.BadPose why) }
     {
         fuse_frame(
+            rt,
             alloc,
             &self.config,
             &mut self.map,
             &mut self.scratch,
             rows,
             depths,
+            workers,
+            gate,
         )
     }
 

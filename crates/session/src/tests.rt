@@ -7,9 +7,11 @@ use super::*;
 use crossing_export::Crossing;
 use depth_frame::DepthFrame;
 use fixed_geom::{BadPose, PoseRows, Vec3};
+use fusion_core::NoGate;
 use scan_lang::{FrameDone, KnownVoxel, Place, Totals, read_config};
 use std::alloc::Global;
 use std::test::Fail;
+use std::thread::Threads;
 use voxel_block::BlockKey;
 
 const ONE: i64 = 1 << 30;
@@ -39,7 +41,8 @@ const NOTHING: Shot = (AHEAD, 0, 1, 0);
 const NOTHING_FAR_AWAY: Shot = (AHEAD, 50_000_000, 1, 0);
 
 // The answer to a row of pixels.
-fn fuse(
+fn fuse<R: Threads + Sync>(
+    rt: &R,
     alloc: Global,
     session: &mut Session,
     (r, x, width, sample): Shot,
@@ -47,11 +50,12 @@ fn fuse(
     let raw = vec![in alloc; sample; width as usize].ok()?;
     let t = Vec3 { x, y: 0, z: 0 };
     let depths = DepthFrame::make(width, 1, raw);
-    Some(session.frame(alloc, &PoseRows { r, t }, depths))
+    Some(session.frame(rt, alloc, &PoseRows { r, t }, depths, 1, &NoGate))
 }
 
 /// Fuses a frame, and lists the known voxels of the map then; nothing where the frame is refused or it is out of memory.
-fn fuse_and_list(
+fn fuse_and_list<R: Threads + Sync>(
+    rt: &R,
     alloc: Global,
     session: &mut Session,
     rows: &PoseRows,
@@ -59,7 +63,7 @@ fn fuse_and_list(
 ) -> Option<Vec<KnownVoxel>>
     ensures { IfSome result (λ voxels. voxels.items ≡ known_voxels (after session.old.config (state_of session.old) (entries.Frame rows.now depths)).blocks) }
 {
-    match session.frame(alloc, rows, depths) {
+    match session.frame(rt, alloc, rows, depths, 4, &NoGate) {
         Ok(_) => match session.voxels(alloc) {
             Ok((_, voxels)) => Some(voxels),
             Err(_) => None,
@@ -158,8 +162,13 @@ fn frames_are_fused_or_refused(rt: HostRuntime) {
         assert!(rt; session.is_some());
         if let Some(mut session) = session {
             let (blocks, known, weight, distance) = sums;
-            assert_eq!(rt; fuse(alloc, &mut session, WALL), Some(first));
-            assert_eq!(rt; fuse(alloc, &mut session, second), Some(answer), "{}", name);
+            assert_eq!(rt; fuse(&rt, alloc, &mut session, WALL), Some(first));
+            assert_eq!(rt;
+                fuse(&rt, alloc, &mut session, second),
+                Some(answer),
+                "{}",
+                name
+            );
             assert_eq!(rt;
                 session.totals(),
                 Ok(Totals {
@@ -192,7 +201,7 @@ fn blocks_leave_the_heap_and_come_back(rt: HostRuntime) {
             (50000000, done(2, 4, 2), Place::Store),
             (0, done(3, 4, 2), Place::Heap),
         ] {
-            let fused = fuse(alloc, &mut session, (AHEAD, x, 1, 1000));
+            let fused = fuse(&rt, alloc, &mut session, (AHEAD, x, 1, 1000));
             assert_eq!(rt; fused, Some(answer));
             assert_eq!(rt; session.place_of(near), place);
             assert_eq!(rt; session.place_of(beside), Place::Nowhere);
@@ -203,7 +212,7 @@ fn blocks_leave_the_heap_and_come_back(rt: HostRuntime) {
         assert!(rt; depths.is_some());
         if let Some(depths) = depths {
             let t = Vec3 { x: 0, y: 0, z: 0 };
-            let listed = fuse_and_list(alloc, &mut session, &PoseRows { r: AHEAD, t }, depths);
+            let listed = fuse_and_list(&rt, alloc, &mut session, &PoseRows { r: AHEAD, t }, depths);
             assert_eq!(rt; listed.map(|voxels| voxels.len()), Some(1152));
         }
         assert_eq!(rt;
@@ -219,9 +228,14 @@ fn blocks_leave_the_heap_and_come_back(rt: HostRuntime) {
 }
 
 // Fuses or refuses frames one after the other, and says whether the memory sufficed.
-fn fuse_all(alloc: Global, session: &mut Session, shots: &[Shot]) -> bool {
+fn fuse_all<R: Threads + Sync>(
+    rt: &R,
+    alloc: Global,
+    session: &mut Session,
+    shots: &[Shot],
+) -> bool {
     for shot in shots {
-        if fuse(alloc, session, *shot).is_none() {
+        if fuse(rt, alloc, session, *shot).is_none() {
             return false;
         }
     }
@@ -276,7 +290,7 @@ fn a_picture_is_taken_from_the_last_accepted_pose(rt: HostRuntime) {
         let session = session(alloc, heap_blocks);
         assert!(rt; session.is_some());
         if let Some(mut session) = session {
-            assert!(rt; fuse_all(alloc, &mut session, shots));
+            assert!(rt; fuse_all(&rt, alloc, &mut session, shots));
             let wanted = answer.map(|(frame, sample)| (frame, (1, 1), Some(sample)));
             assert_eq!(rt; picture(alloc, &session), wanted, "{}", name);
         }
@@ -304,7 +318,7 @@ fn empty_active_blocks_are_collected(rt: HostRuntime) {
         let session = session(alloc, 2);
         assert!(rt; session.is_some());
         if let Some(mut session) = session {
-            assert!(rt; fuse_all(alloc, &mut session, shots));
+            assert!(rt; fuse_all(&rt, alloc, &mut session, shots));
             let totals = Totals {
                 blocks,
                 known,
@@ -356,7 +370,7 @@ fn a_wall_has_points_wherever_its_blocks_lie(rt: HostRuntime) {
         let session = session(alloc, 64);
         assert!(rt; session.is_some());
         if let Some(mut session) = session {
-            assert!(rt; fuse_all(alloc, &mut session, shots));
+            assert!(rt; fuse_all(&rt, alloc, &mut session, shots));
             let wanted = match depth {
                 Some(z) => (
                     64,
@@ -387,7 +401,7 @@ fn weights_stop_at_the_greatest(rt: HostRuntime) {
     assert!(rt; session.is_some());
     if let Some(mut session) = session {
         for frame in 1..=300 {
-            let fused = fuse(alloc, &mut session, WALL);
+            let fused = fuse(&rt, alloc, &mut session, WALL);
             assert_eq!(rt; fused, Some(done(frame, 2, 2)));
         }
         assert_eq!(rt;

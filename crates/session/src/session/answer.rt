@@ -1,4 +1,4 @@
-ghost use Rattle.std.specs.Prelude.{◌≡◌, IfOk, OnErr, OnOk};
+ghost use Rattle.std.specs.Prelude.{◌≡◌, ◌≤◌, IfOk, OnErr, OnOk};
 ghost use Rattle.scan_lang.specs.declared.entry.Entry.TheVariants as entries;
 ghost use Rattle.session.specs.Answers.{state_of};
 ghost use Rattle.session.specs.Fold.{after, refusal_reply, reply_to};
@@ -9,16 +9,28 @@ use super::Session;
 use crate::error::RenderError;
 use depth_frame::DepthFrame;
 use fixed_geom::{BadPose, PoseRows};
-use fusion_core::Refusal;
+use fusion_core::{Gate, Refusal};
 use scan_lang::{Entry, PointList, Reply, VoxelList};
 use std::alloc::Global;
+use std::thread::Threads;
 use voxel_block::NoMemory;
 
 impl Session {
     /// Acts on an entry of a scan, and gives the reply to it. A frame that is refused has a reply like any other.
     ///
+    /// A frame is worked on by `workers` workers, from 1 to 64, which pass the gate as in `frame`. The reply does not depend
+    /// on their number.
+    ///
     /// Out of memory the map is as before; no block has moved, but chunks of the store may have been opened.
-    pub fn answer(&mut self, alloc: Global, entry: Entry) -> Result<Reply, NoMemory>
+    pub fn answer<R: Threads + Sync, G: Gate>(
+        &mut self,
+        rt: &R,
+        alloc: Global,
+        entry: Entry,
+        workers: u32,
+        gate: &G,
+    ) -> Result<Reply, NoMemory>
+        requires workers { (1 ≤ workers) × (workers ≤ 64) }
         ensures reply { IfOk result (λ r. r ≡ reply_to self.old.config (state_of self.old) entry) }
         ensures state { OnOk result (state_of self.new ≡ after self.old.config (state_of self.old) entry) }
         ensures kept { OnErr result (state_of self.new ≡ state_of self.old) }
@@ -27,7 +39,9 @@ impl Session {
         ensures stands { Stands self.new }
     {
         match entry {
-            Entry::Frame(rows, depths) => self.answer_frame(alloc, &rows, depths),
+            Entry::Frame(rows, depths) => {
+                self.answer_frame(rt, alloc, &rows, depths, workers, gate)
+            }
             Entry::Collect => Ok(Reply::Collected(self.collect()?)),
             Entry::Render => self.answer_render(alloc),
             Entry::Voxels => {
@@ -46,12 +60,16 @@ impl Session {
     }
 
     // Fuses a frame, and gives the reply to it.
-    fn answer_frame(
+    fn answer_frame<R: Threads + Sync, G: Gate>(
         &mut self,
+        rt: &R,
         alloc: Global,
         rows: &PoseRows,
         depths: DepthFrame,
+        workers: u32,
+        gate: &G,
     ) -> Result<Reply, NoMemory>
+        requires workers { (1 ≤ workers) × (workers ≤ 64) }
         ensures reply { IfOk result (λ r. r ≡ reply_to self.old.config (state_of self.old) (entries.Frame rows.now depths)) }
         ensures state { OnOk result (state_of self.new ≡ after self.old.config (state_of self.old) (entries.Frame rows.now depths)) }
         ensures kept { OnErr result (state_of self.new ≡ state_of self.old) }
@@ -59,7 +77,7 @@ impl Session {
         ensures config { self.new.config ≡ self.old.config }
         ensures stands { Stands self.new }
     {
-        match self.frame(alloc, rows, depths) {
+        match self.frame(rt, alloc, rows, depths, workers, gate) {
             Ok(done) => Ok(Reply::Frame(done)),
             Err(why) => match why.refusal() {
                 Some(refusal) => Ok(refused(refusal)),

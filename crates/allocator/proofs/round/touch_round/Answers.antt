@@ -1,4 +1,4 @@
-use Rattle.std.proofs.Common.{◌≡◌, ◌<◌, ◌≤◌, ◌+◌, ◌-◌, ap, sym, subst, ◌∙◌, arith}
+use Rattle.std.proofs.Common.{◌<◌, ◌≤◌, ◌+◌, ◌-◌, subst, arith}
 use Rattle.std.specs.FinMap.{len}
 use Rattle.band_walk.specs.BandViews.{view_of_band}
 use Rattle.band_walk.specs.Bands.{band}

@@ -1,4 +1,4 @@
-use Rattle.std.proofs.Common.{◌≡◌, ap, sym, ◌∙◌}
+use Rattle.std.proofs.Common.{ap, sym, ◌∙◌}
 use Rattle.spatial_hash.specs.Table.{Table}
 use Rattle.allocator.proofs.Adding.{touch_adds, touch_has, touch_spent}
 use Rattle.allocator.proofs.touching.touch.Goals as goal

@@ -1,5 +1,4 @@
-use Rattle.std.proofs.Common.{◌+◌, slice_index_or, ◌∙◌, arith}
-use Rattle.voxel_block.specs.declared.key.BlockKey.{BlockKey}
+use Rattle.std.proofs.Common.{slice_index_or, ◌∙◌, arith}
 use Rattle.allocator.proofs.Adding.{adds_key, adds_nothing, adds_then, below_all, below_next, below_none, key_there, no_key}
 use Rattle.allocator.proofs.touching.touch_all.Goals as goal
 
