@@ -1,6 +1,7 @@
 -- The command that words are.
 use Rattle.std.proofs.Common.{codes, ◌≡◌, ℕ, ◌^◌, ◌≤◌, ◌<◌, ◌≢◌, List, [], ◌∷◌, length, Bool, true, false, leb, ◌&&◌, None, Option, refl, sym, ap, ◌∙◌, arith, inl, inr, get_or, subst}
 use Rattle.std.specs.Prelude.{Some, if◌then◌else◌, is_some, option_and_then, option_map}
+use Rattle.std.specs.Option.{option_map_or}
 use Rattle.std.specs.Str.{bytes_eq}
 use Rattle.std.specs.List.{list_all}
 use Rattle.std.specs.Char.{is_ascii_digit, digit_value}
@@ -138,3 +139,47 @@ without_bound (fault ∷ more) named s f w is = absurd (true≢false (sym (ap is
 pub frames_bound : (words : List Text) (s f w : ℕ) → command_of words ≡ Some (Demo s f w) → (1 ≤ f) × (f ≤ 1000)
 unfolding command_of
 frames_bound words s f w is = without_bound (fault_of program_app words) (subcommand_of program_app words) s f w is
+
+-- ---- the workers of a command
+
+abbrev pub workers_in : Command → ℕ
+workers_in (Fuse workers keep) = workers
+workers_in (Demo seed frames workers) = workers
+
+abbrev workers_known : Option Command → ℕ
+workers_known None = 0
+workers_known (Some command) = workers_in command
+
+given_workers : (n : ℕ) (word : Option Text) → option_map_or (number_in 1 64) word (Some 4) ≡ Some n → (1 ≤ n) × (n ≤ 64)
+given_workers n None is = let four : 4 ≡ n = ap number_of is in (omega (arith, four), omega (arith, four))
+given_workers n (Some word) is = number_bound 1 64 n word is
+
+fuse_workers : (workers : Option ℕ) (command : Command) → option_map (λ n. Fuse n None) workers ≡ Some command → workers ≡ Some (workers_in command)
+fuse_workers None command is = absurd (true≢false (sym (ap is_some is)))
+fuse_workers (Some n) command is = ap (λ o. Some (workers_known o)) is
+
+demo_workers : (seed frames workers : Option ℕ) (command : Command)
+    → option_and_then (λ a. option_and_then (λ b. option_map (λ n. Demo a b n) workers) frames) seed ≡ Some command → workers ≡ Some (workers_in command)
+demo_workers None frames workers command is = absurd (true≢false (sym (ap is_some is)))
+demo_workers (Some a) None workers command is = absurd (true≢false (sym (ap is_some is)))
+demo_workers (Some a) (Some b) None command is = absurd (true≢false (sym (ap is_some is)))
+demo_workers (Some a) (Some b) (Some n) command is = ap (λ o. Some (workers_known o)) is
+
+chosen_workers : (fuse demo : Bool) (rows : List Row) (command : Command) → (if fuse then fuse_of rows else if demo then demo_of rows else None) ≡ Some command
+    → (1 ≤ workers_in command) × (workers_in command ≤ 64)
+chosen_workers true demo rows command is = given_workers (workers_in command) (first_of (codes "workers") rows) (fuse_workers (workers_of rows) command is)
+chosen_workers false true rows command is =
+    given_workers (workers_in command) (first_of (codes "workers") rows)
+    (demo_workers (number_given (codes "seed") 0 4294967295 rows) (number_given (codes "frames") 1 1000 rows) (workers_of rows) command is)
+chosen_workers false false rows command is = absurd (true≢false (sym (ap is_some is)))
+
+without_workers : (faults : Kinds) (named : Option (Text × List Row)) (command : Command) → command_without faults named ≡ Some command
+    → (1 ≤ workers_in command) × (workers_in command ≤ 64)
+without_workers [] None command is = absurd (true≢false (sym (ap is_some is)))
+without_workers [] (Some (name, rows)) command is = chosen_workers (bytes_eq name (codes "fuse")) (bytes_eq name (codes "demo")) rows command is
+without_workers (fault ∷ more) named command is = absurd (true≢false (sym (ap is_some is)))
+
+-- a command has 1 to 64 workers
+pub workers_bound : (words : List Text) (command : Command) → command_of words ≡ Some command → (1 ≤ workers_in command) × (workers_in command ≤ 64)
+unfolding command_of
+workers_bound words command is = without_workers (fault_of program_app words) (subcommand_of program_app words) command is

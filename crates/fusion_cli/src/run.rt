@@ -105,11 +105,13 @@ pub fn run_fusion<R: Threads + Sync, S: Source, K: Sink, G: Gate>(
         Ok(Command::Fuse { workers, .. }) => {
             status_of(run_scan(rt, alloc, source, sink, workers, gate))
         }
-        Ok(Command::Demo {
-            seed,
-            frames,
-            workers,
-        }) => status_of(run_demo(rt, alloc, seed, frames, sink, workers, gate)),
+        Ok(
+            Command::Demo {
+                seed,
+                frames,
+                workers,
+            },
+        ) => status_of(run_demo(rt, alloc, seed, frames, sink, workers, gate)),
         Err(WordError::Usage) => Status::Usage,
         Err(WordError::NoMemory) => Status::NoMemory,
     }
@@ -162,7 +164,16 @@ fn run_scan<R: Threads + Sync, S: Source, K: Sink, G: Gate>(
 {
     let (config, mut reader) = ScanReader::begin(alloc, source)?;
     let mut session = Session::start(alloc, config)?;
-    answer_all(rt, alloc, &mut session, &mut reader, source, sink, workers, gate)
+    answer_all(
+        rt,
+        alloc,
+        &mut session,
+        &mut reader,
+        source,
+        sink,
+        workers,
+        gate,
+    )
 }
 
 /// Acts on the records that are left of a scan in order, and writes the reply to each.

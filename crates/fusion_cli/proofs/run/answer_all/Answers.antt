@@ -21,7 +21,7 @@ loop-init g c = record {
 
 pub returns-in_err-entry : goal.returns-in_err-entry
 returns-in_err-entry g c =
-    let p = err_from_is_err_and c.from_residual-in_err-entry.result c.from_residual-in_err-entry.ensures.1 in
+    let p = err_from_is_err_and c.from_residual.result c.from_residual.ensures.1 in
     λ before empty run. rw (p.1, p.2) (exit_entry c.loop.session.config (read_by c.next.new.self) c.in_err-entry.field-0.0 _ _ _ c.loop.reader.left c.loop.reader.kept.given (state_of c.loop.session) _ _ (loses_feed c.next.new.self.kept _) (c.loop.invariant.run before empty run) c.in_err-entry.ensures.entry)
 
 pub returns-in_err-reply : goal.returns-in_err-reply
