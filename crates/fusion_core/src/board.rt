@@ -3,14 +3,15 @@
 mod core_laws;
 mod core_steps;
 mod dock;
-mod doing;
+pub mod doing;
 mod done;
 mod event;
 mod hand;
 mod job;
 mod machine;
-mod moving;
+pub mod moving;
 mod slot;
+mod tools;
 mod work;
 
 pub use dock::Dock;
@@ -20,6 +21,7 @@ pub use hand::Hand;
 pub use job::Job;
 pub use machine::Core;
 pub use slot::Slot;
+pub use tools::Tools;
 pub use work::Work;
 
 #[cfg(test)]

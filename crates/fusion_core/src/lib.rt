@@ -12,7 +12,7 @@ mod settings;
 mod touch;
 pub mod touch_laws;
 
-pub use board::{Core, Dock, Done, Event, Hand, Job, Slot, Work};
+pub use board::{Core, Dock, Done, Event, Hand, Job, Slot, Tools, Work, doing, moving};
 pub use frame::Frame;
 pub use gate::{Gate, NoGate};
 pub use not_allowed::NotAllowed;

@@ -6,11 +6,10 @@ ghost use Rattle.fusion_core.specs.declared.board.slot.Slot.TheVariants.{Away};
 ghost use Rattle.fusion_core.specs.Jobs.{Start, departed, draws as draws_of_job, drawn_number, entered, freshened, job_at, left, said, slot_at, stayed, summary_at};
 ghost use Rattle.fusion_core.specs.BoardStates.{allowed, after_event, has_all as has_all_of, put, IsWhole};
 ghost use Rattle.fusion_core.specs.Machines.{CanDo, IsTaken, MayDraw, MayFinish};
-ghost use Rattle.fusion_core.specs.Works.{IsWork};
 
 use crate::NotAllowed;
 use crate::board::doing::{enter, freshen, leave, look, stay};
-use crate::board::{Core, Done, Event, Hand, Job, Slot, Work};
+use crate::board::{Core, Done, Event, Hand, Job, Slot, Tools, Work};
 use std::mem::replace;
 use voxel_block::BlockKey;
 
@@ -61,46 +60,43 @@ fn number_of(drawn: Option<u32>) -> u32
 }
 
 // Makes a free cell the key's.
-fn do_fresh(slots: &mut Vec<Slot>, key: BlockKey, cell: u32, work: &Work) -> Done
-    requires inside { cell < vec_len slots.old }
-    requires work { IsWork work.now }
-    ensures slots { slots.new.items ≡ slice_set slots.old.items cell (freshened work.now key (slot_at slots.old.items cell)) }
+fn do_fresh(slots: &mut Vec<Slot>, key: BlockKey, cell: u32, tools: &Tools<'_>) -> Done
+    requires { cell < vec_len slots.old }
+    ensures slots { slots.new.items ≡ slice_set slots.old.items cell (freshened tools.now key (slot_at slots.old.items cell)) }
     ensures len { vec_len slots.new ≡ vec_len slots.old }
     ensures said { result ≡ done.Cell cell }
 {
     let slot = take_slot(slots, cell as usize);
-    let slot = freshen(slot, key, work);
+    let slot = freshen(slot, key, tools);
     put_slot(slots, cell as usize, slot);
     Done::Cell(cell)
 }
 
 // Updates the block of a cell.
-fn do_stay(slots: &mut Vec<Slot>, cell: u32, work: &Work) -> Done
-    requires inside { cell < vec_len slots.old }
-    requires work { IsWork work.now }
-    ensures slots { slots.new.items ≡ slice_set slots.old.items cell (stayed work.now (slot_at slots.old.items cell)) }
+fn do_stay(slots: &mut Vec<Slot>, cell: u32, tools: &Tools<'_>) -> Done
+    requires { cell < vec_len slots.old }
+    ensures slots { slots.new.items ≡ slice_set slots.old.items cell (stayed tools.now (slot_at slots.old.items cell)) }
     ensures len { vec_len slots.new ≡ vec_len slots.old }
     ensures said { result ≡ done.Cell cell }
 {
     let slot = take_slot(slots, cell as usize);
-    let slot = stay(slot, work);
+    let slot = stay(slot, tools);
     put_slot(slots, cell as usize, slot);
     Done::Cell(cell)
 }
 
 // Moves the block of a dock into a free cell.
-fn do_enter(slots: &mut Vec<Slot>, cell: u32, dock: usize, work: &Work) -> Done
+fn do_enter(slots: &mut Vec<Slot>, cell: u32, dock: usize, tools: &Tools<'_>) -> Done
     requires inside { (cell < vec_len slots.old) × (dock < vec_len slots.old) }
     requires apart { dock ≢ cell }
-    requires work { IsWork work.now }
-    requires taken { IsTaken work.now (slot_at slots.old.items dock) }
-    ensures slots { slots.new.items ≡ slice_set (slice_set slots.old.items cell (entered work.now (slot_at slots.old.items cell) (slot_at slots.old.items dock)).0) dock (entered work.now (slot_at slots.old.items cell) (slot_at slots.old.items dock)).1 }
+    requires taken { IsTaken tools.now (slot_at slots.old.items dock) }
+    ensures slots { slots.new.items ≡ slice_set (slice_set slots.old.items cell (entered tools.now (slot_at slots.old.items cell) (slot_at slots.old.items dock)).0) dock (entered tools.now (slot_at slots.old.items cell) (slot_at slots.old.items dock)).1 }
     ensures len { vec_len slots.new ≡ vec_len slots.old }
     ensures said { result ≡ done.Cell cell }
 {
     let cell_slot = take_slot(slots, cell as usize);
     let dock_slot = take_slot(slots, dock);
-    let (cell_slot, dock_slot) = enter(cell_slot, dock_slot, work);
+    let (cell_slot, dock_slot) = enter(cell_slot, dock_slot, tools);
     put_slot(slots, cell as usize, cell_slot);
     put_slot(slots, dock, dock_slot);
     Done::Cell(cell)
@@ -131,17 +127,22 @@ fn do_check(slots: &Vec<Slot>, cell: u32) -> Done
 }
 
 // Does a job on its slots.
-fn do_job(slots: &mut Vec<Slot>, cells: usize, job: Job, drawn: Option<u32>, work: &Work) -> Done
-    requires can { (st : Start) × CanDo st work.now cells slots.old.items job drawn }
-    requires work { IsWork work.now }
+fn do_job(
+    slots: &mut Vec<Slot>,
+    cells: usize,
+    job: Job,
+    drawn: Option<u32>,
+    tools: &Tools<'_>,
+) -> Done
+    requires can { (st : Start) × CanDo st tools.now cells slots.old.items job drawn }
     requires few { cells < 4294967296 }
-    ensures done { (st : Start) → CanDo st work.now cells slots.old.items job drawn → (slots.new.items ≡ put slots.old.items (left st job drawn)) × (result ≡ said st job drawn) }
+    ensures done { (st : Start) → CanDo st tools.now cells slots.old.items job drawn → (slots.new.items ≡ put slots.old.items (left st job drawn)) × (result ≡ said st job drawn) }
     ensures len { vec_len slots.new ≡ vec_len slots.old }
 {
     match job {
-        Job::Fresh { key } => do_fresh(slots, key, number_of(drawn), work),
-        Job::Stay { cell } => do_stay(slots, cell, work),
-        Job::Enter { dock } => do_enter(slots, number_of(drawn), cells + dock as usize, work),
+        Job::Fresh { key } => do_fresh(slots, key, number_of(drawn), tools),
+        Job::Stay { cell } => do_stay(slots, cell, tools),
+        Job::Enter { dock } => do_enter(slots, number_of(drawn), cells + dock as usize, tools),
         Job::Leave { cell, dock } => do_leave(slots, cell, cells + dock as usize),
         Job::Check { cell } => do_check(slots, cell),
     }
@@ -249,7 +250,8 @@ impl Core {
             return Err(NotAllowed);
         };
         let job = self.job(j);
-        let said = do_job(&mut self.slots, self.cell_count, job, drawn, work);
+        let tools = Tools::of(work);
+        let said = do_job(&mut self.slots, self.cell_count, job, drawn, &tools);
         self.done[j as usize] = Some(said);
         self.hands[w as usize] = Hand::Idle;
         Ok(())

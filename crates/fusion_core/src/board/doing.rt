@@ -1,67 +1,62 @@
-// What each job makes of its cell and of its dock.
+//! What each job makes of its cell and of its dock. A slot that is not what the job finds stays as it is.
 ghost use Rattle.std.specs.Prelude.{◌≡◌};
 ghost use Rattle.block_heap.specs.declared.cell.Cell.TheVariants.{Free, Owned};
 ghost use Rattle.fusion_core.specs.declared.board.slot.Slot.TheVariants.{OfCell};
 ghost use Rattle.fusion_core.specs.Jobs.{departed, entered, freshened, stayed, summary_at};
 ghost use Rattle.fusion_core.specs.Machines.{IsTaken};
-ghost use Rattle.fusion_core.specs.Works.{IsWork};
 
-use crate::board::{Dock, Slot, Work};
+use crate::board::{Dock, Slot, Tools};
 use block_heap::Cell;
 use voxel_block::{Block, BlockKey, Summary, pack_into, unpack_into};
 
-// Makes a free cell the key's, with new voxels that are updated.
-pub fn freshen(slot: Slot, key: BlockKey, work: &Work) -> Slot
-    requires { IsWork work.now }
-    ensures { result ≡ freshened work.now key slot }
+/// Makes a free cell the key's, with new voxels that are updated.
+pub fn freshen(slot: Slot, key: BlockKey, tools: &Tools<'_>) -> Slot
+    ensures { result ≡ freshened tools.now key slot }
 {
     match slot {
         Slot::OfCell(Cell::Free(mut block)) => {
             block.reset();
-            work.update(&mut block, key);
+            tools.update(&mut block, key);
             Slot::OfCell(Cell::Owned(key, block))
         }
         other => other,
     }
 }
 
-// Updates the block of an owned cell.
-pub fn stay(slot: Slot, work: &Work) -> Slot
-    requires { IsWork work.now }
-    ensures { result ≡ stayed work.now slot }
+/// Updates the block of an owned cell.
+pub fn stay(slot: Slot, tools: &Tools<'_>) -> Slot
+    ensures { result ≡ stayed tools.now slot }
 {
     match slot {
         Slot::OfCell(Cell::Owned(key, mut block)) => {
-            work.update(&mut block, key);
+            tools.update(&mut block, key);
             Slot::OfCell(Cell::Owned(key, block))
         }
         other => other,
     }
 }
 
-// Moves the block of a full dock into a free cell, and updates it.
-pub fn enter(cell: Slot, dock: Slot, work: &Work) -> (Slot, Slot)
-    requires work { IsWork work.now }
-    requires taken { IsTaken work.now dock }
-    ensures { result ≡ entered work.now cell dock }
+/// Moves the block of a full dock into a free cell, and updates it.
+pub fn enter(cell: Slot, dock: Slot, tools: &Tools<'_>) -> (Slot, Slot)
+    requires { IsTaken tools.now dock }
+    ensures { result ≡ entered tools.now cell dock }
 {
     match cell {
-        Slot::OfCell(Cell::Free(block)) => enter_block(block, dock, work),
+        Slot::OfCell(Cell::Free(block)) => enter_block(block, dock, tools),
         other => (other, dock),
     }
 }
 
 // The same with the block of the free cell.
-fn enter_block(mut block: Block, dock: Slot, work: &Work) -> (Slot, Slot)
-    requires work { IsWork work.now }
-    requires taken { IsTaken work.now dock }
-    ensures { result ≡ entered work.now (OfCell (Free block)) dock }
+fn enter_block(mut block: Block, dock: Slot, tools: &Tools<'_>) -> (Slot, Slot)
+    requires { IsTaken tools.now dock }
+    ensures { result ≡ entered tools.now (OfCell (Free block)) dock }
 {
     match dock {
         Slot::OfDock(Dock::Full(key, packed)) => {
-            match unpack_into(&packed, work.max_weight(), &mut block) {
+            match unpack_into(&packed, tools.max_weight(), &mut block) {
                 Ok(_) => {
-                    work.update(&mut block, key);
+                    tools.update(&mut block, key);
                     (
                         Slot::OfCell(Cell::Owned(key, block)),
                         Slot::OfDock(Dock::Bare(packed)),
@@ -77,7 +72,7 @@ fn enter_block(mut block: Block, dock: Slot, work: &Work) -> (Slot, Slot)
     }
 }
 
-// Packs the block of an owned cell into a bare dock, and frees the cell.
+/// Packs the block of an owned cell into a bare dock, and frees the cell.
 pub fn leave(cell: Slot, dock: Slot) -> (Slot, Slot)
     ensures { result ≡ departed cell dock }
 {
@@ -101,7 +96,7 @@ fn leave_block(key: BlockKey, block: Block, dock: Slot) -> (Slot, Slot)
     }
 }
 
-// The summary of the block in a cell.
+/// The summary of the block in a cell.
 pub fn look(slot: &Slot) -> Summary
     ensures { result ≡ summary_at slot.now }
 {

@@ -48,8 +48,8 @@ impl Core {
     pub fn make(
         alloc: Global,
         jobs: Vec<Job>,
-        cells: Vec<Cell>,
-        docks: Vec<Dock>,
+        mut cells: Vec<Cell>,
+        mut docks: Vec<Dock>,
         free: Vec<u32>,
         work: &Work,
         workers: u32,
@@ -63,7 +63,7 @@ impl Core {
         let mut slots = Vec::with_capacity(alloc, cell_count + docks.len())?;
         let hands = vec![in alloc; Hand::Idle; workers as usize]?;
         let done = vec![in alloc; None; jobs.len()]?;
-        move_into_row(cells, docks, &mut slots);
+        move_into_row(&mut cells, &mut docks, &mut slots);
         Ok(Core {
             jobs,
             slots,
@@ -77,5 +77,19 @@ impl Core {
             docks: docks_then,
             work: Snapshot::of(work),
         })
+    }
+
+    /// The cells and then the docks. What a worker has in hand is as it was when the machine was made.
+    pub fn slots(&self) -> &[Slot]
+        ensures { result.now ≡ self.now.slots }
+    {
+        self.slots.as_slice()
+    }
+
+    /// The answer of each job by its number, none where the job is not done.
+    pub fn answers(&self) -> &[Option<Done>]
+        ensures { result.now ≡ self.now.done }
+    {
+        self.done.as_slice()
     }
 }

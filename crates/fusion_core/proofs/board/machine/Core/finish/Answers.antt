@@ -12,7 +12,7 @@ use Rattle.fusion_core.proofs.board.machine.Core.finish.Goals as goal
 pub do_job-said-requires-clause-can : goal.do_job-said-requires-clause-can
 do_job-said-requires-clause-can c =
     let i = c.self.inside in let m : BoardState = core_view i in
-    (m.start, can_do m _ c.self.view_is c.args.w c.in-Some.j c.in-Some.drawn c.in-Some.ensures.may i.cell_count c.args.work.now c.job-job.result c.self.invariant.0 c.requires.fits c.self.invariant.1 c.job-job.ensures)
+    (m.start, can_do m _ c.self.view_is c.args.w c.in-Some.j c.in-Some.drawn c.in-Some.ensures.may i.cell_count c.of-tools.result c.job-job.result c.self.invariant.0 (c.of-tools.ensures ∙ c.requires.fits) c.self.invariant.1 c.job-job.ensures)
 
 pub index_mut-requires : goal.index_mut-requires
 index_mut-requires c =
@@ -32,11 +32,11 @@ pub invariant_of-self : goal.invariant_of-self
 invariant_of-self c =
     let i = c.self.inside in let m : BoardState = core_view i in let w : ℕ = c.args.w in
     let may = finish_here m _ c.self.view_is w c.in-Some.j c.in-Some.drawn c.in-Some.ensures.may in
-    let is = done_is m _ c.self.view_is w c.in-Some.j c.in-Some.drawn c.in-Some.ensures.may i.cell_count c.args.work.now c.job-job.result c.self.invariant.0 c.requires.fits c.self.invariant.1 c.job-job.ensures c.do_job-said.new.slots.items c.do_job-said.result c.do_job-said.ensures.done in
+    let is = done_is m _ c.self.view_is w c.in-Some.j c.in-Some.drawn c.in-Some.ensures.may i.cell_count c.of-tools.result c.job-job.result c.self.invariant.0 (c.of-tools.ensures ∙ c.requires.fits) c.self.invariant.1 c.job-job.ensures c.do_job-said.new.slots.items c.do_job-said.result c.do_job-said.ensures.done in
     (subst IsWhole (sym is) (step_keeps m (Finish w) c.self.invariant.0 may.may), c.self.invariant.1)
 
 pub returns-clause-ok : goal.returns-clause-ok
 returns-clause-ok c =
     let i = c.self.inside in
-    done_is (core_view i) _ c.self.view_is c.args.w c.in-Some.j c.in-Some.drawn c.in-Some.ensures.may i.cell_count c.args.work.now c.job-job.result c.self.invariant.0 c.requires.fits c.self.invariant.1 c.job-job.ensures c.do_job-said.new.slots.items c.do_job-said.result c.do_job-said.ensures.done
+    done_is (core_view i) _ c.self.view_is c.args.w c.in-Some.j c.in-Some.drawn c.in-Some.ensures.may i.cell_count c.of-tools.result c.job-job.result c.self.invariant.0 (c.of-tools.ensures ∙ c.requires.fits) c.self.invariant.1 c.job-job.ensures c.do_job-said.new.slots.items c.do_job-said.result c.do_job-said.ensures.done
     ∙ ap (λ (z : BoardState). after_event z (Finish c.args.w)) c.self.view_is

@@ -1,0 +1,13 @@
+pub mod Acts
+pub mod Allowed
+pub mod Counting
+pub mod Ending
+pub mod Given
+pub mod Growing
+pub mod Keeps
+pub mod Opening
+pub mod Parts
+pub mod Takes
+pub mod Turning
+pub mod Views
+pub mod Waiting
